@@ -1,25 +1,25 @@
 -- A student who enters begins a chain.
 use Rattle.std.proofs.Common.{◌≡◌, inl, inr, refl, ap, sym, subst, ◌∙◌, ℕ, ◌<◌, ◌==◌, ◌≤◌, nat_eq, Bool, true, false, not, ◌||◌, List, [], ◌∷◌, ◌++◌, length, get_or, set, Option, Some, None, is_some, find, position, slice_get, arith, length-set, get_or-set_same, get_or-set_other}
-use Rattle.std.proofs.lemmas.Bool.{cases_Bool, cases_eq, eq-eqb, ne_eqb, false≢true, and_left, or_right}
+use Rattle.std.proofs.lemmas.Bool.{cases_Bool, cases_eq, eq-eqb, ne_eqb, false≢true, and_left, or_left, or_right}
 use Rattle.sc_papers.specs.Market.{Market, students_of, choices_of}
 use Rattle.sc_papers.specs.Matching.{has}
-use Rattle.sc_papers.specs.Log.{next_choice, is_rejected, IsSettled}
-use Rattle.sc_papers.specs.Chain.{InChain, and_one}
+use Rattle.sc_papers.specs.Log.{next_choice, is_rejected, IsSettled, IsValidLog}
+use Rattle.sc_papers.specs.Chain.{and_one}
 use Rattle.sc_papers.specs.Restriction.{restricted}
 use Rattle.sc_papers.specs.declared.rejection.Rejection.{Rejection}
 use Rattle.sc_papers.specs.declared.records.Student.{Student}
 use Rattle.sc_papers.proofs.Entering.{is_some-false}
-use Rattle.sc_papers.proofs.Chain.{chain-begins}
 use Rattle.sc_papers.proofs.Positions.{position-at}
 use Rattle.sc_papers.proofs.Rejections.{is_of, rejected-push, find-agree, has-agree}
 use Rattle.sc_papers.proofs.Restriction.{restricted-restricts, next-kept, next-dropped}
-use Rattle.sc_papers.proofs.Subsets.{next-passes}
+use Rattle.sc_papers.proofs.Subsets.{next-passes, valid-grows}
 use Rattle.sc_papers.proofs.Validity.{along}
-use Rattle.sc_engine.specs.RoundView.{RoundView, rank_of, next_of, has_entered, FitsBut, Fits, except, only, nobody, entered_papers, Continues, Midway, ChainEnds, Enters, CountsProposals, Extends, RollFits, roll_of}
+use Rattle.sc_engine.specs.RoundView.{RoundView, rank_of, next_of, has_entered, FitsBut, Fits, IsAway, except, only, nobody, entered_papers, Continues, Midway, Moves, Enters, CountsProposals, Extends, RollFits, roll_of}
 use Rattle.sc_engine.proofs.Tables.{rank-apart, rank-at, next-by, next-none}
 use Rattle.sc_engine.proofs.Tables as tables
 use Rattle.sc_engine.proofs.Rolls.{roll-fits_still}
-use Rattle.sc_engine.proofs.Proposals.{except-alike, has-left, has-none, standing-without, standing-others, counted-within}
+use Rattle.sc_engine.proofs.Proposals.{differ-only, except-alike, has-alike, has-none, or-same, standing-alike, standing-others, counted-within}
+use Rattle.sc_engine.proofs.Steps.{continues-midway}
 
 -- the student goes to a rank of their choices, with nothing else changed
 pub record Begun (m : Market) (r r' : RoundView) (i at rank : ℕ) : Type 0 where
@@ -46,10 +46,6 @@ module _ {m : Market} {r r' : RoundView} {i at rank : ℕ} (begun : Begun m r r'
   pub next_absent : next_of m r.ranks i ≡ None
   next_absent = next-none m r.ranks i (is_some-false (rank_of m r.ranks i) begun.absent)
 
-or-same : (a b : Bool) → b ≡ false → a ≡ (a || b)
-or-same true b off = refl
-or-same false b off = sym off
-
 -- one more has entered
 pub entered-begun : {m : Market} {r r' : RoundView} {i at rank : ℕ} → Begun m r r' i at rank → (j : ℕ) → has_entered m r'.ranks j ≡ and_one (has_entered m r.ranks) i j
 entered-begun {m} {r} {r'} {i} begun j = elim (cases_eq j i) [
@@ -64,14 +60,14 @@ counted-begun {m} {r} {r'} {i} begun =
       arith,
       begun.proposals,
       ap (λ (l : List Rejection). length l) begun.log,
-      standing-without m r.ranks i (next_absent begun),
-      standing-others m r.ranks r'.ranks i (next-others begun),
+      standing-alike (differ-only i) m r.ranks (next_absent begun),
+      standing-others m r.ranks r'.ranks (only i) i (eq-eqb i i refl) (next-others begun),
     )
 
 stand-alike : {m : Market} {r r' : RoundView} {i at rank : ℕ} → Begun m r r' i at rank → (t j : ℕ) → has (next_of m r.ranks) t j ≡ has (except (only i) (next_of m r'.ranks)) t j
 stand-alike {m} {r} {r'} {i} begun t j =
-    sym (has-left (next_of m r.ranks) i t (has-none (next_of m r.ranks) t i (next_absent begun)) j)
-    ∙ sym (has-agree (except (only i) (next_of m r'.ranks)) (except (only i) (next_of m r.ranks)) t j (except-alike (next_of m r'.ranks) (next_of m r.ranks) i (next-others begun) j))
+    sym (has-alike (differ-only i) (next_of m r.ranks) t (has-none (next_of m r.ranks) t i (next_absent begun)) j)
+    ∙ sym (has-agree (except (only i) (next_of m r'.ranks)) (except (only i) (next_of m r.ranks)) t j (except-alike (only i) (next_of m r'.ranks) (next_of m r.ranks) i (eq-eqb i i refl) (next-others begun) j))
 
 -- the rolls still fit, with the student away
 pub fits-begun : {m : Market} {r r' : RoundView} {i at rank : ℕ} → Begun m r r' i at rank → FitsBut m r' (only i)
@@ -84,6 +80,9 @@ fits-begun {m} {r} {r'} {i} {at} {rank} begun = record {
       (roll-fits_still m (next_of m r.ranks) (except (only i) (next_of m r'.ranks)) t (roll_of m r.rolls t) (stand-alike begun t) (begun.fits.each t));
   proposals = counted-within m r nobody r' (only i) (counted-begun begun) begun.fits.proposals;
 }
+
+pub away-begun : {m : Market} {r r' : RoundView} {i at rank : ℕ} → Begun m r r' i at rank → IsAway m r' (only i) i
+away-begun {m} {r} {r'} {i} begun = record { fits = fits-begun begun; gone = eq-eqb i i refl }
 
 -- a log that is settled for those who have entered rejects nobody else
 record RejectsNo (i : ℕ) (log : List Rejection) : Type 0 where
@@ -103,12 +102,12 @@ find-all [] = refl
 find-all (x ∷ xs) = refl
 
 -- the next choice of one who is not rejected is the first
-first-choice : (m : Market) (log : List Rejection) (i : ℕ) → ((s : ℕ) → is_rejected log i s ≡ false) → next_choice m log i ≡ slice_get (choices_of m i) 0
+pub first-choice : (m : Market) (log : List Rejection) (i : ℕ) → ((s : ℕ) → is_rejected log i s ≡ false) → next_choice m log i ≡ slice_get (choices_of m i) 0
 unfolding next_choice
 first-choice m log i none = find-agree (λ s. not (is_rejected log i s)) (λ s. true) (λ s. ap not (none s)) (choices_of m i) ∙ find-all (choices_of m i)
 
--- the chain is in course after each earlier log that the round continued
-pub midway-begun : {m : Market} {r r' : RoundView} {i at : ℕ} → Begun m r r' i at 0 → (earlier : List Rejection) → Continues m earlier r → Midway m earlier r' i
+-- the student is to propose after each earlier log that the round continued
+pub midway-begun : {m : Market} {r r' : RoundView} {i at : ℕ} → Begun m r r' i at 0 → (earlier : List Rejection) → Continues m earlier r → Midway m earlier r'
 midway-begun {m} {r} {r'} {i} begun earlier continues =
     let entered : ℕ → Bool = has_entered m r.ranks in
     let log : List Rejection = earlier ++ r.log in
@@ -127,7 +126,8 @@ midway-begun {m} {r} {r'} {i} begun earlier continues =
       | inr gone ↦ next-dropped (restricted-restricts m (and_one entered i)) log j (same ∙ gone) ∙ sym (next-dropped (restricted-restricts m entered) log j gone)
     ]) ∙ continues.next j ∙ sym (next-others begun j apart) in
     record {
-      chain = subst (λ p. InChain p (earlier ++ r'.log) i) (sym same_papers) (subst (λ l. InChain n' l i) (sym same_log) (chain-begins m entered i log continues.settled));
+      valid = subst (λ p. IsValidLog p (earlier ++ r'.log)) (sym same_papers) (subst (IsValidLog n') (sym same_log)
+          (valid-grows (restricted-restricts m entered) (restricted-restricts m (and_one entered i)) (λ j here. or_left (entered j) (j == i) here) [] log continues.settled.valid));
       next = λ j. ap (λ p. next_choice p (earlier ++ r'.log) j) same_papers ∙ ap (λ l. next_choice n' l j) same_log ∙ elim (cases_eq j i) [
         | inl same ↦ ap (next_choice n' log) same ∙ own ∙ ap (next_of m r'.ranks) (sym same)
         | inr apart ↦ others j apart
@@ -135,11 +135,11 @@ midway-begun {m} {r} {r'} {i} begun earlier continues =
     }
 
 -- a whole chain
-pub enters : {m : Market} {r r' r'' : RoundView} {i at : ℕ} → Begun m r r' i at 0 → ChainEnds m r' r'' i → Enters m r r'' i
+pub enters : {m : Market} {r r' r'' : RoundView} {i at : ℕ} → Begun m r r' i at 0 → Moves m r' (only i) r'' nobody → Enters m r r'' i
 enters {m} {r} {r'} {r''} {i} begun ends = record {
   fits = ends.fits;
   entered = λ j. ends.entered j ∙ entered-begun begun j;
-  continues = λ earlier continues. ends.continues earlier (midway-begun begun earlier continues);
+  continues = λ earlier continues. continues-midway m r'' ends.fits earlier (ends.midway earlier (midway-begun begun earlier continues));
   extends = subst (λ l. Extends l r''.log) begun.log ends.extends;
   counted = omega (arith, counted-begun begun, ends.counted);
 }

@@ -24,3 +24,4 @@ pub mod Taking
 pub mod Changing
 pub mod Proposing
 mod Clearing
+pub mod Together

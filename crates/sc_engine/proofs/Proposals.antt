@@ -1,12 +1,13 @@
--- One proposal of a chain: what it keeps, and what it does to the log.
-use Rattle.std.proofs.Common.{◌≡◌, ◌⊎◌, inl, inr, refl, ap, sym, subst, ◌∙◌, ℕ, ◌+◌, ◌≤◌, ◌==◌, nat_eq, Bool, true, false, cond, not, ◌&&◌, List, ◌∷◌, length, Option, Some, None, Contains, is_some, count_by, position, arith}
+-- One proposal: what it keeps, and what it does to the log.
+use Rattle.std.proofs.Common.{◌≡◌, ◌⊎◌, inl, inr, refl, ap, sym, subst, ◌∙◌, ℕ, ◌+◌, ◌≤◌, ◌==◌, nat_eq, Bool, true, false, cond, not, ◌&&◌, ◌||◌, List, ◌∷◌, length, Option, Some, None, All, Contains, is_some, count_by, position, arith}
 use Rattle.std.specs.Option.{option_map_or}
-use Rattle.std.proofs.lemmas.Bool.{cases_eq, eq-eqb, ne_eqb, and_left, false_from_ne_true}
+use Rattle.std.proofs.lemmas.Bool.{cases_eq, eq-eqb, ne_eqb, and_left, and_right, or_right, false_from_ne_true}
 use Rattle.std.proofs.lemmas.Option.{same_Some, none-some}
-use Rattle.std.proofs.lemmas.List.Elements.{All-contains, All-cons}
-use Rattle.std.proofs.lemmas.List.Sorted.{Contains-permutation, IsPermutation-sym, All-permutation}
+use Rattle.std.proofs.lemmas.List.Elements.{All-cons, All-tail}
+use Rattle.std.proofs.lemmas.List.Sorted.{Contains-permutation, IsPermutation-sym, All-permutation, length_permutation}
+use Rattle.sc_papers.specs.Chain.{and_one}
 use Rattle.sc_papers.specs.Market.{Market, students_of, schools_of}
-use Rattle.sc_papers.specs.Key.{key_of, is_ahead, is_before}
+use Rattle.sc_papers.specs.Key.{key_of, is_before}
 use Rattle.sc_papers.specs.Matching.{Matching, how_many, has}
 use Rattle.sc_papers.specs.WellFormed.{WellFormed, WithinLimits}
 use Rattle.std.proofs.lemmas.List.Sums.{count_by-le-length}
@@ -15,14 +16,14 @@ use Rattle.sc_papers.specs.declared.key.Key.{Key}
 use Rattle.sc_papers.specs.declared.rejection.Rejection.{Rejection}
 use Rattle.sc_papers.specs.declared.limits.TheConstants.{MOST_STUDENTS}
 use Rattle.sc_papers.proofs.Chain.{how_many-split, how_many-split_both}
-use Rattle.sc_papers.proofs.Counting.{contains-cons, contains-head, contains-tail}
+use Rattle.sc_papers.proofs.Counting.{contains-cons, contains-head}
 use Rattle.sc_papers.proofs.Rejections.{has-true, has-some}
 use Rattle.sc_papers.proofs.Students.{how_many-agree}
-use Rattle.sc_seats.specs.Roll.{RollView}
-use Rattle.sc_engine.specs.RoundView.{RoundView, next_of, roll_of, roll_at, RollFits, FitsBut, Fits, except, only, nobody, standing_but, CountsProposals, OffersAt}
+use Rattle.sc_seats.specs.Roll.{RollView, Refuses}
+use Rattle.sc_engine.specs.RoundView.{RoundView, next_of, roll_of, roll_at, RollFits, FitsBut, IsAway, IsPutOut, except, only, nobody, without, standing_but, CountsProposals, OffersAt}
 use Rattle.sc_engine.proofs.Tables.{length-mapped, next-among, roll-at, roll-kept}
 use Rattle.sc_engine.proofs.RollCounts.{IsCounted, counted, fits-counted, key-student}
-use Rattle.sc_engine.proofs.Rolls.{on-roll, roll-holds, roll-fits_still, counts-held}
+use Rattle.sc_engine.proofs.Rolls.{on-roll, roll-fits_still, counts-held, counts-offered}
 
 -- who has a school that is not s has not s
 pub has-not : (a : Matching) (s t i : ℕ) → a i ≡ Some s → (t ≡ s → ⊥) → has a t i ≡ false
@@ -31,17 +32,47 @@ has-not a s t i is apart = false_from_ne_true (has a t i) (λ holds. apart (same
 pub has-none : (a : Matching) (t i : ℕ) → a i ≡ None → has a t i ≡ false
 has-none a t i is = false_from_ne_true (has a t i) (λ holds. none-some t (sym is ∙ has-true a t i holds))
 
--- the ones who stand at a school, without one who doesn't
-pub not-there : (a : Bool) (j y : ℕ) → (j ≡ y → a ≡ false) → (a && not (j == y)) ≡ a
-not-there a j y absent =
-    elim (cases_eq j y) [
-      | inl same ↦ and_left a (not (j == y)) (absent same) ∙ sym (absent same)
-      | inr apart ↦ keeps a (not (j == y)) (ap not (ne_eqb j y apart))
-    ]
-  where
-    keeps : (a b : Bool) → b ≡ true → (a && b) ≡ a
-    keeps true b holds = holds
-    keeps false b holds = refl
+pub and-keeps : (a b : Bool) → b ≡ true → (a && b) ≡ a
+and-keeps true b holds = holds
+and-keeps false b holds = refl
+
+pub or-same : (a b : Bool) → b ≡ false → a ≡ (a || b)
+or-same true b off = refl
+or-same false b off = sym off
+
+-- one student is away by the first test and not by the second, and the others are by both or by neither
+pub record DifferAt (i : ℕ) (away back : ℕ → Bool) : Type 0 where
+  pub gone : away i ≡ true
+  pub here : back i ≡ false
+  pub others : (j : ℕ) → (j ≡ i → ⊥) → away j ≡ back j
+
+pub differ-only : (i : ℕ) → DifferAt i (only i) nobody
+differ-only i = record { gone = eq-eqb i i refl; here = refl; others = λ j apart. ne_eqb j i apart }
+
+pub differ-without : (away : ℕ → Bool) (i : ℕ) → away i ≡ true → DifferAt i away (without away i)
+differ-without away i gone = record {
+  gone = gone;
+  here = and_right (away i) (not (i == i)) (ap not (eq-eqb i i refl));
+  others = λ j apart. sym (and-keeps (away j) (not (j == i)) (ap not (ne_eqb j i apart)));
+}
+
+pub differ-with : (back : ℕ → Bool) (i : ℕ) → back i ≡ false → DifferAt i (and_one back i) back
+differ-with back i here = record {
+  gone = or_right (back i) (i == i) (eq-eqb i i refl);
+  here = here;
+  others = λ j apart. sym (or-same (back j) (j == i) (ne_eqb j i apart));
+}
+
+and-not : (b : Bool) → (b && not b) ≡ false
+and-not true = refl
+and-not false = refl
+
+-- nobody is away where the only one comes back, and one alone where another goes
+pub back-only : (i : ℕ) → without (only i) i ≡ nobody
+back-only i = λ t j. and-not (j == i) t
+
+pub only-other : (i out : ℕ) → and_one (without (only i) i) out ≡ only out
+only-other i out = λ t j. ap (λ b. b || j == out) (and-not (j == i)) t
 
 -- what is asked of a student's place, where those who are away are left out
 pub asked-except : (test : Option ℕ → Bool) → test None ≡ false → (away : ℕ → Bool) (a : Matching) (j : ℕ) → test (except away a j) ≡ (test (a j) && not (away j))
@@ -56,54 +87,57 @@ asked-except test none away a j = go (away j) (test (a j)) refl
 pub has-except : (away : ℕ → Bool) (a : Matching) (s j : ℕ) → has (except away a) s j ≡ (has a s j && not (away j))
 has-except away a s j = asked-except (λ o. option_map_or (λ t. t == s) o false) refl away a j
 
--- leaving out one who does not have a school, the same have it
-pub has-left : (a : Matching) (i s : ℕ) → has a s i ≡ false → (j : ℕ) → has (except (only i) a) s j ≡ has a s j
-has-left a i s absent j = has-except (only i) a s j ∙ not-there (has a s j) j i (λ same. ap (has a s) same ∙ absent)
+module _ {i : ℕ} {away back : ℕ → Bool} (differ : DifferAt i away back) where
+  -- of the others nothing else is asked
+  asked-alike : (test : Option ℕ → Bool) → test None ≡ false → (a : Matching) → test (a i) ≡ false → (j : ℕ) → test (except away a j) ≡ test (except back a j)
+  asked-alike test none a fails j =
+      asked-except test none away a j ∙ elim (cases_eq j i) [
+        | inl is ↦ and_left (test (a j)) (not (away j)) (ap (λ k. test (a k)) is ∙ fails) ∙ sym (and_left (test (a j)) (not (back j)) (ap (λ k. test (a k)) is ∙ fails))
+        | inr apart ↦ ap (λ b. test (a j) && not b) (differ.others j apart)
+      ] ∙ sym (asked-except test none back a j)
 
--- leaving out one, where the others have the same
-pub except-alike : (a b : Matching) (i : ℕ) → ((j : ℕ) → (j ≡ i → ⊥) → a j ≡ b j) → (j : ℕ) → except (only i) a j ≡ except (only i) b j
-except-alike a b i same j = elim (cases_eq j i) [
-  | inl own ↦ ap (λ away. cond away None (a j)) (eq-eqb j i own) ∙ sym (ap (λ away. cond away None (b j)) (eq-eqb j i own))
-  | inr apart ↦ ap (λ o. cond (j == i) None o) (same j apart)
+  -- with the one left out
+  asked-left : (test : Option ℕ → Bool) → test None ≡ false → (a : Matching) (j : ℕ) → (test (except back a j) && not (j == i)) ≡ test (except away a j)
+  asked-left test none a j = elim (cases_eq j i) [
+    | inl is ↦ and_right (test (except back a j)) (not (j == i)) (ap not (eq-eqb j i is))
+        ∙ sym (asked-except test none away a j ∙ and_right (test (a j)) (not (away j)) (ap not (ap away is ∙ differ.gone)))
+    | inr apart ↦ and-keeps (test (except back a j)) (not (j == i)) (ap not (ne_eqb j i apart))
+        ∙ asked-except test none back a j ∙ ap (λ b. test (a j) && not b) (sym (differ.others j apart)) ∙ sym (asked-except test none away a j)
+  ]
+
+  -- who has a school that the one has not
+  pub has-alike : (a : Matching) (t : ℕ) → has a t i ≡ false → (j : ℕ) → has (except away a) t j ≡ has (except back a) t j
+  has-alike a t absent = asked-alike (λ o. option_map_or (λ s. s == t) o false) refl a absent
+
+  -- the one who has the school, and the others
+  pub split-except : (m : Market) → WellFormed m → (p : ℕ → Bool) (a : Matching) (s : ℕ) → Contains (students_of m) i → a i ≡ Some s → how_many m (λ j. p j && has (except back a) s j) ≡ cond (p i) 1 0 + how_many m (λ j. p j && has (except away a) s j)
+  split-except m well p a s among stands =
+      how_many-split_both m well p (has (except back a) s) i among (has-some (except back a) s i (ap (λ b. cond b None (a i)) differ.here ∙ stands))
+      ∙ ap (λ n. cond (p i) 1 0 + n) (how_many-agree m (λ j. p j && (has (except back a) s j && not (j == i))) (λ j. p j && has (except away a) s j)
+      (λ j. ap (λ b. p j && b) (asked-left (λ o. option_map_or (λ t. t == s) o false) refl a j)))
+
+  -- one who stands at a choice, and the others
+  pub standing-split : (m : Market) → WellFormed m → (ranks : List (Option ℕ)) (s : ℕ) → next_of m ranks i ≡ Some s → standing_but m ranks back ≡ 1 + standing_but m ranks away
+  standing-split m well ranks s stands =
+      let next = next_of m ranks in
+      how_many-split m well (λ j. is_some (except back next j)) i (next-among m ranks i s stands) (ap (λ b. is_some (cond b None (next i))) differ.here ∙ ap is_some stands)
+      ∙ ap (λ n. 1 + n) (how_many-agree m (λ j. is_some (except back next j) && not (j == i)) (λ j. is_some (except away next j)) (asked-left is_some refl next))
+
+  -- leaving out one who stands nowhere
+  pub standing-alike : (m : Market) (ranks : List (Option ℕ)) → next_of m ranks i ≡ None → standing_but m ranks away ≡ standing_but m ranks back
+  standing-alike m ranks none =
+      how_many-agree m (λ j. is_some (except away (next_of m ranks) j)) (λ j. is_some (except back (next_of m ranks) j)) (asked-alike is_some refl (next_of m ranks) (ap is_some none))
+
+-- leaving out those who are away, where the others have the same
+pub except-alike : (away : ℕ → Bool) (a b : Matching) (i : ℕ) → away i ≡ true → ((j : ℕ) → (j ≡ i → ⊥) → a j ≡ b j) → (j : ℕ) → except away a j ≡ except away b j
+except-alike away a b i gone same j = elim (cases_eq j i) [
+  | inl own ↦ ap (λ w. cond w None (a j)) (ap away own ∙ gone) ∙ sym (ap (λ w. cond w None (b j)) (ap away own ∙ gone))
+  | inr apart ↦ ap (λ o. cond (away j) None o) (same j apart)
 ]
 
--- one who has the school, and the others
-pub split-except : (m : Market) → WellFormed m → (p : ℕ → Bool) (a : Matching) (s i : ℕ) → Contains (students_of m) i → a i ≡ Some s → how_many m (λ j. p j && has a s j) ≡ cond (p i) 1 0 + how_many m (λ j. p j && has (except (only i) a) s j)
-split-except m well p a s i among stands =
-    how_many-split_both m well p (has a s) i among (has-some a s i stands)
-    ∙ ap (λ n. cond (p i) 1 0 + n) (how_many-agree m (λ j. p j && (has a s j && not (j == i))) (λ j. p j && has (except (only i) a) s j) (λ j. ap (λ b. p j && b) (sym (has-except (only i) a s j))))
-
--- a proposal as the code makes it: the student in hand stands at s, and their key is offered to the roll
-pub record Proposed (m : Market) (r : RoundView) (proposer s at : ℕ) (rolls : List RollView) (out : Option Key) : Type 0 where
-  pub fits : FitsBut m r (only proposer)
-  pub stands : next_of m r.ranks proposer ≡ Some s
-  pub school : position (nat_eq s) (schools_of m) ≡ Some at
-  pub offered : OffersAt r.rolls rolls at (key_of m proposer s) out
-
-module _ {m : Market} {r : RoundView} {proposer s at : ℕ} {rolls : List RollView} {out : Option Key} (done : Proposed m r proposer s at rolls out) where
-  -- the school's roll before
-  pub roll-before : RollFits m (except (only proposer) (next_of m r.ranks)) s (roll_at r.rolls at)
-  roll-before = subst (RollFits m (except (only proposer) (next_of m r.ranks)) s) (roll-at m r.rolls s at done.school) (done.fits.each s)
-
-  pub roll-before_counted : IsCounted m (except (only proposer) (next_of m r.ranks)) s (roll_at r.rolls at)
-  roll-before_counted = counted m (except (only proposer) (next_of m r.ranks)) s (roll_at r.rolls at) roll-before
-
-  -- the other schools' rolls stay
-  pub roll-after_other : (t : ℕ) → (t ≡ s → ⊥) → roll_of m rolls t ≡ roll_of m r.rolls t
-  roll-after_other = roll-kept m r.rolls rolls s at done.school done.offered.others
-
-  pub roll-after : roll_of m rolls s ≡ roll_at rolls at
-  roll-after = roll-at m rolls s at done.school
-
--- the proposals stay within what the log and the ranks account for
-pub counted-within : (m : Market) (r : RoundView) (away : ℕ → Bool) (r' : RoundView) (away' : ℕ → Bool) → CountsProposals m r away r' away' → r.proposals ≤ length r.log + standing_but m r.ranks away → r'.proposals ≤ length r'.log + standing_but m r'.ranks away'
-counted-within m r away r' away' counted within = omega (arith, counted, within)
-
--- one who stands at a choice, and the others
-pub standing-split : (m : Market) → WellFormed m → (ranks : List (Option ℕ)) (i s : ℕ) → next_of m ranks i ≡ Some s → standing_but m ranks nobody ≡ 1 + standing_but m ranks (only i)
-standing-split m well ranks i s stands =
-    how_many-split m well (λ j. is_some (next_of m ranks j)) i (next-among m ranks i s stands) (ap is_some stands)
-    ∙ ap (λ n. 1 + n) (how_many-agree m (λ j. is_some (next_of m ranks j) && not (j == i)) (λ j. is_some (except (only i) (next_of m ranks) j)) (λ j. sym (asked-except is_some refl (only i) (next_of m ranks) j)))
+pub standing-others : (m : Market) (old new : List (Option ℕ)) (away : ℕ → Bool) (i : ℕ) → away i ≡ true → ((j : ℕ) → (j ≡ i → ⊥) → next_of m new j ≡ next_of m old j) → standing_but m new away ≡ standing_but m old away
+standing-others m old new away i gone same =
+    how_many-agree m (λ j. is_some (except away (next_of m new) j)) (λ j. is_some (except away (next_of m old) j)) (λ j. ap is_some (except-alike away (next_of m new) (next_of m old) i gone same j))
 
 -- no more stand at a choice than there are students
 pub standing-most : (m : Market) (ranks : List (Option ℕ)) (away : ℕ → Bool) → WithinLimits m → standing_but m ranks away ≤ MOST_STUDENTS
@@ -111,94 +145,120 @@ unfolding how_many
 standing-most m ranks away within =
     omega (arith, within.students, length-mapped (λ (e : ℕ × Student). e.0) m.students, count_by-le-length (λ i. is_some (except away (next_of m ranks) i)) (students_of m))
 
--- leaving out one who stands nowhere
-pub standing-without : (m : Market) (ranks : List (Option ℕ)) (i : ℕ) → next_of m ranks i ≡ None → standing_but m ranks nobody ≡ standing_but m ranks (only i)
-standing-without m ranks i none =
-    how_many-agree m (λ j. is_some (next_of m ranks j)) (λ j. is_some (except (only i) (next_of m ranks) j))
-    (λ j. sym (asked-except is_some refl (only i) (next_of m ranks) j ∙ not-there (is_some (next_of m ranks j)) j i (λ same. ap is_some (ap (next_of m ranks) same ∙ none))))
+-- the proposals stay within what the log and the ranks account for
+pub counted-within : (m : Market) (r : RoundView) (away : ℕ → Bool) (r' : RoundView) (away' : ℕ → Bool) → CountsProposals m r away r' away' → r.proposals ≤ length r.log + standing_but m r.ranks away → r'.proposals ≤ length r'.log + standing_but m r'.ranks away'
+counted-within m r away r' away' counted within = omega (arith, counted, within)
 
--- leaving out one student, where the others stay
-pub standing-others : (m : Market) (old new : List (Option ℕ)) (i : ℕ) → ((j : ℕ) → (j ≡ i → ⊥) → next_of m new j ≡ next_of m old j) → standing_but m new (only i) ≡ standing_but m old (only i)
-standing-others m old new i same =
-    how_many-agree m (λ j. is_some (except (only i) (next_of m new) j)) (λ j. is_some (except (only i) (next_of m old) j)) (λ j. ap is_some (except-alike (next_of m new) (next_of m old) i same j))
+-- a proposal as the code makes it: a student who is away stands at s, and their key is offered to the roll
+pub record Proposed (m : Market) (r : RoundView) (away : ℕ → Bool) (proposer s at : ℕ) (rolls : List RollView) (out : Option Key) : Type 0 where
+  pub hand : IsAway m r away proposer
+  pub stands : next_of m r.ranks proposer ≡ Some s
+  pub school : position (nat_eq s) (schools_of m) ≡ Some at
+  pub offered : OffersAt r.rolls rolls at (key_of m proposer s) out
 
--- the counts at the end of a chain
-pub counted-ended : (m : Market) (r : RoundView) (proposer : ℕ) → next_of m r.ranks proposer ≡ None → CountsProposals m r (only proposer) r nobody
-counted-ended m r proposer none = ap (λ n. r.proposals + (length r.log + n)) (sym (standing-without m r.ranks proposer none))
+module _ {m : Market} {r : RoundView} {away : ℕ → Bool} {proposer s at : ℕ} {rolls : List RollView} {out : Option Key} (done : Proposed m r away proposer s at rolls out) where
+  -- the school's roll before
+  roll-before : RollFits m (except away (next_of m r.ranks)) s (roll_at r.rolls at)
+  roll-before = subst (RollFits m (except away (next_of m r.ranks)) s) (roll-at m r.rolls s at done.school) (done.hand.fits.each s)
 
-pub counted-held : (m : Market) (r r' : RoundView) (proposer s : ℕ) → WellFormed m → next_of m r.ranks proposer ≡ Some s → r'.ranks ≡ r.ranks → r'.log ≡ r.log → r'.proposals ≡ r.proposals + 1 → CountsProposals m r (only proposer) r' nobody
-counted-held m r r' proposer s well stands same_ranks same_log one_more =
-    omega (arith, one_more, standing-split m well r.ranks proposer s stands, ap (λ ranks. standing_but m ranks nobody) same_ranks, ap (λ (l : List Rejection). length l) same_log)
+  roll-before_counted : IsCounted m (except away (next_of m r.ranks)) s (roll_at r.rolls at)
+  roll-before_counted = counted m (except away (next_of m r.ranks)) s (roll_at r.rolls at) roll-before
 
--- nobody is put out: the roll had room
-pub fits-held : (m : Market) (r r' : RoundView) (proposer s at : ℕ) → Proposed m r proposer s at r'.rolls None → r'.ranks ≡ r.ranks → CountsProposals m r (only proposer) r' nobody → Fits m r'
-fits-held m r r' proposer s at done same counted = record {
-  proposals = counted-within m r (only proposer) r' nobody counted done.fits.proposals;
-  well_formed = done.fits.well_formed;
-  within_limits = done.fits.within_limits;
-  ranks = omega (arith, ap (λ (l : List (Option ℕ)). length l) same, done.fits.ranks);
-  rolls = done.offered.same_length ∙ done.fits.rolls;
-  each = λ t. subst (λ ranks. RollFits m (next_of m ranks) t (roll_of m r'.rolls t)) (sym same) (elim (cases_eq t s) [
-    | inl at_s ↦ subst (λ u. RollFits m next u (roll_of m r'.rolls u)) (sym at_s) (subst (RollFits m next s) (sym (roll-after done)) here)
-    | inr apart ↦ subst (RollFits m next t) (sym (roll-after_other done t apart))
-        (roll-fits_still m (except (only proposer) next) next t (roll_of m r.rolls t) (has-left next proposer t (has-not next s t proposer done.stands apart)) (done.fits.each t))
-  ]);
-}
-  where
-    next : Matching
-    next = next_of m r.ranks
+  -- the other schools' rolls stay
+  roll-after_other : (t : ℕ) → (t ≡ s → ⊥) → roll_of m rolls t ≡ roll_of m r.rolls t
+  roll-after_other = roll-kept m r.rolls rolls s at done.school done.offered.others
 
-    here : RollFits m next s (roll_at r'.rolls at)
-    here = fits-counted m next s (roll_at r'.rolls at) (record {
-      seats = done.offered.seats ∙ (roll-before done).seats;
-      within = done.offered.within;
-      keyed = All-permutation (λ k. k ≡ key_of m k.student s) (key_of m proposer s ∷ (roll_at r.rolls at).keys) (roll_at r'.rolls at).keys done.offered.together
-          (All-cons (λ k. k ≡ key_of m k.student s) (key_of m proposer s) (roll_at r.rolls at).keys (ap (λ i. key_of m i s) (sym (key-student m proposer s))) (roll-before_counted done).keyed);
-      exact = λ p.
-          let now : count_by (λ (k : Key). p k.student) (roll_at r'.rolls at).keys ≡ cond (p proposer) 1 0 + count_by (λ (k : Key). p k.student) (roll_at r.rolls at).keys =
-          counts-held p (key_of m proposer s) (roll_at r.rolls at).keys (roll_at r'.rolls at).keys done.offered.together ∙ ap (λ i. cond (p i) 1 0 + count_by (λ (k : Key). p k.student) (roll_at r.rolls at).keys) (key-student m proposer s) in
-          let split = split-except m done.fits.well_formed p next s proposer (next-among m r.ranks proposer s done.stands) done.stands in
-          omega (arith, now, split, (roll-before_counted done).exact p);
-    })
+  roll-after : roll_of m rolls s ≡ roll_at rolls at
+  roll-after = roll-at m rolls s at done.school
 
--- the student in hand has no choice left
-pub fits-ended : (m : Market) (r : RoundView) (proposer : ℕ) → FitsBut m r (only proposer) → next_of m r.ranks proposer ≡ None → Fits m r
-fits-ended m r proposer fits none = record {
+  -- the keys before, and the one that is offered
+  keyed-offered : All (λ k. k ≡ key_of m k.student s) (key_of m proposer s ∷ (roll_at r.rolls at).keys)
+  keyed-offered = All-cons (λ k. k ≡ key_of m k.student s) (key_of m proposer s) (roll_at r.rolls at).keys (ap (λ j. key_of m j s) (sym (key-student m proposer s))) roll-before_counted.keyed
+
+  -- the rolls after, where at other schools the same stand and not others are away, and here those whom the roll holds
+  rolls-offered : (after : ℕ → Bool) → ((t : ℕ) → (t ≡ s → ⊥) → (j : ℕ) → has (except away (next_of m r.ranks)) t j ≡ has (except after (next_of m r.ranks)) t j)
+      → All (λ (k : Key). k ≡ key_of m k.student s) (roll_at rolls at).keys
+      → ((p : ℕ → Bool) → count_by (λ (k : Key). p k.student) (roll_at rolls at).keys ≡ how_many m (λ j. p j && has (except after (next_of m r.ranks)) s j))
+      → (t : ℕ) → RollFits m (except after (next_of m r.ranks)) t (roll_of m rolls t)
+  rolls-offered after others keyed exact t =
+      let next : Matching = next_of m r.ranks in
+      elim (cases_eq t s) [
+        | inl at_s ↦ subst (λ u. RollFits m (except after next) u (roll_of m rolls u)) (sym at_s) (subst (RollFits m (except after next) s) (sym roll-after)
+            (fits-counted m (except after next) s (roll_at rolls at) (record { seats = done.offered.seats ∙ roll-before.seats; within = done.offered.within; keyed = keyed; exact = exact })))
+        | inr apart ↦ subst (RollFits m (except after next) t) (sym (roll-after_other t apart))
+            (roll-fits_still m (except away next) (except after next) t (roll_of m r.rolls t) (others t apart) (done.hand.fits.each t))
+      ]
+
+-- the counts where the student in hand has no choice left
+pub counted-ended : (m : Market) (r : RoundView) (away : ℕ → Bool) (proposer : ℕ) → away proposer ≡ true → next_of m r.ranks proposer ≡ None → CountsProposals m r away r (without away proposer)
+counted-ended m r away proposer gone none = ap (λ n. r.proposals + (length r.log + n)) (standing-alike (differ-without away proposer gone) m r.ranks none)
+
+pub counted-held : (m : Market) (r r' : RoundView) (away : ℕ → Bool) (proposer s : ℕ) → WellFormed m → away proposer ≡ true → next_of m r.ranks proposer ≡ Some s → r'.ranks ≡ r.ranks → r'.log ≡ r.log → r'.proposals ≡ r.proposals + 1 → CountsProposals m r away r' (without away proposer)
+counted-held m r r' away proposer s well gone stands same_ranks same_log one_more =
+    omega (arith, one_more, standing-split (differ-without away proposer gone) m well r.ranks s stands, ap (λ ranks. standing_but m ranks (without away proposer)) same_ranks, ap (λ (l : List Rejection). length l) same_log)
+
+-- a round whose rolls alone are others
+fits-rolls : (m : Market) (r r' : RoundView) (away after : ℕ → Bool) → FitsBut m r away → r'.ranks ≡ r.ranks → length r'.rolls ≡ length r.rolls → ((t : ℕ) → RollFits m (except after (next_of m r.ranks)) t (roll_of m r'.rolls t)) → CountsProposals m r away r' after → FitsBut m r' after
+fits-rolls m r r' away after fits same same_length each counted = record {
   well_formed = fits.well_formed;
   within_limits = fits.within_limits;
-  ranks = fits.ranks;
-  rolls = fits.rolls;
-  proposals = counted-within m r (only proposer) r nobody (counted-ended m r proposer none) fits.proposals;
-  each = λ t. roll-fits_still m (except (only proposer) (next_of m r.ranks)) (next_of m r.ranks) t (roll_of m r.rolls t)
-      (has-left (next_of m r.ranks) proposer t (has-none (next_of m r.ranks) t proposer none)) (fits.each t);
+  ranks = omega (arith, ap (λ (l : List (Option ℕ)). length l) same, fits.ranks);
+  rolls = same_length ∙ fits.rolls;
+  each = λ t. subst (λ ranks. RollFits m (except after (next_of m ranks)) t (roll_of m r'.rolls t)) (sym same) (each t);
+  proposals = counted-within m r away r' after counted fits.proposals;
 }
 
--- the student who is put out was there or is the one in hand, and is the last of them
-pub record Out (m : Market) (next : Matching) (proposer s : ℕ) (out : Key) : Type 0 where
-  pub stands : next out.student ≡ Some s
+-- nobody is put out: the roll had room
+pub fits-held : (m : Market) (r r' : RoundView) (away : ℕ → Bool) (proposer s at : ℕ) → Proposed m r away proposer s at r'.rolls None → r'.ranks ≡ r.ranks → CountsProposals m r away r' (without away proposer) → FitsBut m r' (without away proposer)
+fits-held m r r' away proposer s at done same counted =
+    let next : Matching = next_of m r.ranks in
+    let differ = differ-without away proposer done.hand.gone in
+    fits-rolls m r r' away (without away proposer) done.hand.fits same done.offered.same_length
+    (rolls-offered done (without away proposer) (λ t apart. has-alike differ next t (has-not next s t proposer done.stands apart))
+    (All-permutation (λ k. k ≡ key_of m k.student s) (key_of m proposer s ∷ (roll_at r.rolls at).keys) (roll_at r'.rolls at).keys done.offered.together (keyed-offered done))
+    (λ p.
+    let now : count_by (λ (k : Key). p k.student) (roll_at r'.rolls at).keys ≡ cond (p proposer) 1 0 + count_by (λ (k : Key). p k.student) (roll_at r.rolls at).keys =
+    counts-held p (key_of m proposer s) (roll_at r.rolls at).keys (roll_at r'.rolls at).keys done.offered.together ∙ ap (λ i. cond (p i) 1 0 + count_by (λ (k : Key). p k.student) (roll_at r.rolls at).keys) (key-student m proposer s) in
+    let split = split-except differ m done.hand.fits.well_formed p next s (next-among m r.ranks proposer s done.stands) done.stands in
+    omega (arith, now, split, (roll-before_counted done).exact p)))
+    counted
+
+-- the student in hand has no choice left
+pub fits-ended : (m : Market) (r : RoundView) (away : ℕ → Bool) (proposer : ℕ) → IsAway m r away proposer → next_of m r.ranks proposer ≡ None → FitsBut m r (without away proposer)
+fits-ended m r away proposer hand none =
+    let next : Matching = next_of m r.ranks in
+    fits-rolls m r r away (without away proposer) hand.fits refl refl
+    (λ t. roll-fits_still m (except away next) (except (without away proposer) next) t (roll_of m r.rolls t)
+    (has-alike (differ-without away proposer hand.gone) next t (has-none next t proposer none)) (hand.fits.each t))
+    (counted-ended m r away proposer hand.gone none)
+
+-- the student who is put out was on the roll or is the one in hand, and the roll would refuse them now
+pub record Out (m : Market) (r : RoundView) (away : ℕ → Bool) (proposer s : ℕ) (rolls : List RollView) (out : Key) : Type 0 where
+  pub stands : next_of m r.ranks out.student ≡ Some s
   pub own : out ≡ key_of m out.student s
-  pub last : (j : ℕ) → next j ≡ Some s → (j ≡ out.student → ⊥) → is_ahead m s j out.student ≡ true
+  pub here : without away proposer out.student ≡ false
+  pub refused : IsPutOut m (record r { rolls = rolls }) (record { student = out.student; school = s })
 
-before-ahead : (m : Market) (s i j : ℕ) → is_before (key_of m i s) (key_of m j s) ≡ true → is_ahead m s i j ≡ true
-unfolding is_ahead
-before-ahead m s i j before = before
-
-pub put-out : (m : Market) (r : RoundView) (proposer s at : ℕ) (rolls : List RollView) (out : Key) → Proposed m r proposer s at rolls (Some out) → Out m (next_of m r.ranks) proposer s out
-put-out m r proposer s at rolls out done = record {
-  stands = (elim from [
-    | inl is_hand ↦ ap next (ap (λ (k : Key). k.student) (sym is_hand) ∙ key-student m proposer s) ∙ done.stands
-    | inr held ↦ (on-old held).0
-  ]);
+pub put-out : (m : Market) (r : RoundView) (away : ℕ → Bool) (proposer s at : ℕ) (rolls : List RollView) (out : Key) → Proposed m r away proposer s at rolls (Some out) → Out m r away proposer s rolls out
+put-out m r away proposer s at rolls out done = record {
+  stands = stands;
   own = own;
-  last = λ j stands apart.
-      let among : Contains (key_of m proposer s ∷ old.keys) (key_of m j s) = elim (cases_eq j proposer) [
-        | inl is_hand ↦ subst (λ i. Contains (key_of m proposer s ∷ old.keys) (key_of m i s)) (sym is_hand) (contains-head (key_of m proposer s) old.keys)
-        | inr other ↦ contains-tail (key_of m proposer s) old.keys (key_of m j s) (roll-holds m (except (only proposer) next) s old j (roll-before done) (next-among m r.ranks j s stands) (ap (λ away. cond away None (next j)) (ne_eqb j proposer other) ∙ stands))
-      ] in
-      elim (contains-cons out (roll_at rolls at).keys (key_of m j s) (Contains-permutation (key_of m proposer s ∷ old.keys) (out ∷ (roll_at rolls at).keys) (key_of m j s) done.offered.together among)) [
-        | inl is_out ↦ absurd (apart (sym (key-student m j s) ∙ ap (λ (k : Key). k.student) (sym is_out)))
-        | inr stayed ↦ before-ahead m s j out.student (subst (λ k. is_before (key_of m j s) k ≡ true) own (All-contains (λ held. is_before held out ≡ true) (roll_at rolls at).keys (key_of m j s) done.offered.last stayed))
-      ];
+  here = (elim from [
+    | inl is_hand ↦ ap (without away proposer) (ap (λ (k : Key). k.student) (sym is_hand) ∙ key-student m proposer s) ∙ (differ-without away proposer done.hand.gone).here
+    | inr held ↦ and_left (away out.student) (not (out.student == proposer)) (on-old held).0
+  ]);
+  refused = record {
+    stands = stands;
+    refused = subst (λ (roll : RollView). Refuses roll.keys roll.seats (key_of m out.student s)) (sym (roll-after done)) (record {
+      full = omega (
+        arith,
+        length_permutation (key_of m proposer s ∷ old.keys) (out ∷ (roll_at rolls at).keys) done.offered.together,
+        done.offered.full refl,
+        done.offered.seats,
+      );
+      behind = subst (λ k. All (λ held. is_before held k ≡ true) (roll_at rolls at).keys) own done.offered.last;
+    });
+  };
 }
   where
     next : Matching
@@ -207,23 +267,59 @@ put-out m r proposer s at rolls out done = record {
     old : RollView
     old = roll_at r.rolls at
 
-    from : (key_of m proposer s ≡ out) ⊎ Contains (roll_at r.rolls at).keys out
-    from = contains-cons (key_of m proposer s) (roll_at r.rolls at).keys out
-        (Contains-permutation (out ∷ (roll_at rolls at).keys) (key_of m proposer s ∷ (roll_at r.rolls at).keys) out
-        (IsPermutation-sym (key_of m proposer s ∷ (roll_at r.rolls at).keys) (out ∷ (roll_at rolls at).keys) done.offered.together) (contains-head out (roll_at rolls at).keys))
+    from : (key_of m proposer s ≡ out) ⊎ Contains old.keys out
+    from = contains-cons (key_of m proposer s) old.keys out
+        (Contains-permutation (out ∷ (roll_at rolls at).keys) (key_of m proposer s ∷ old.keys) out
+        (IsPermutation-sym (key_of m proposer s ∷ old.keys) (out ∷ (roll_at rolls at).keys) done.offered.together) (contains-head out (roll_at rolls at).keys))
 
-    -- who was on the roll stood there
-    on-old : Contains old.keys out → (next out.student ≡ Some s) × (out ≡ key_of m out.student s)
-    on-old held =
-        let on = on-roll m (except (only proposer) next) s old out (roll-before done) held in
-        (stood (out.student == proposer) on.stands, on.own)
+    -- who was on the roll stood there, and was not away
+    on-old : Contains old.keys out → (away out.student ≡ false) × (next out.student ≡ Some s)
+    on-old held = stood (away out.student) (on-roll m (except away next) s old out (roll-before done) held).stands
       where
-        stood : (away : Bool) → cond away None (next out.student) ≡ Some s → next out.student ≡ Some s
+        stood : (gone : Bool) → cond gone None (next out.student) ≡ Some s → (gone ≡ false) × (next out.student ≡ Some s)
         stood true is = absurd (none-some s is)
-        stood false is = is
+        stood false is = (refl, is)
+
+    stands : next out.student ≡ Some s
+    stands = elim from [
+      | inl is_hand ↦ ap next (ap (λ (k : Key). k.student) (sym is_hand) ∙ key-student m proposer s) ∙ done.stands
+      | inr held ↦ (on-old held).1
+    ]
 
     own : out ≡ key_of m out.student s
     own = elim from [
       | inl is_hand ↦ sym is_hand ∙ ap (λ i. key_of m i s) (sym (key-student m proposer s) ∙ ap (λ (k : Key). k.student) is_hand)
-      | inr held ↦ (on-old held).1
+      | inr held ↦ (on-roll m (except away next) s old out (roll-before done) held).own
     ]
+
+-- a student is put out, whose rejection is not noted yet
+pub counted-exchanged : (m : Market) (r r' : RoundView) (away : ℕ → Bool) (proposer s : ℕ) (rolls : List RollView) (out : Key) → WellFormed m → away proposer ≡ true → next_of m r.ranks proposer ≡ Some s → Out m r away proposer s rolls out → r'.ranks ≡ r.ranks → r'.log ≡ r.log → r'.proposals ≡ r.proposals → CountsProposals m r away r' (and_one (without away proposer) out.student)
+counted-exchanged m r r' away proposer s rolls out well gone stands put same_ranks same_log same =
+    omega (
+      arith,
+      same,
+      standing-split (differ-without away proposer gone) m well r.ranks s stands,
+      standing-split (differ-with (without away proposer) out.student put.here) m well r.ranks s put.stands,
+      ap (λ ranks. standing_but m ranks (and_one (without away proposer) out.student)) same_ranks,
+      ap (λ (l : List Rejection). length l) same_log,
+    )
+
+pub fits-exchanged : (m : Market) (r r' : RoundView) (away : ℕ → Bool) (proposer s at : ℕ) (out : Key) → Proposed m r away proposer s at r'.rolls (Some out) → Out m r away proposer s r'.rolls out → r'.ranks ≡ r.ranks → CountsProposals m r away r' (and_one (without away proposer) out.student) → FitsBut m r' (and_one (without away proposer) out.student)
+fits-exchanged m r r' away proposer s at out done put same exactly =
+    let next : Matching = next_of m r.ranks in
+    let back : ℕ → Bool = without away proposer in
+    let after : ℕ → Bool = and_one back out.student in
+    let first = differ-without away proposer done.hand.gone in
+    let second = differ-with back out.student put.here in
+    fits-rolls m r r' away after done.hand.fits same done.offered.same_length
+    (rolls-offered done after
+    (λ t apart j. has-alike first next t (has-not next s t proposer done.stands apart) j ∙ sym (has-alike second next t (has-not next s t out.student put.stands apart) j))
+    (All-tail (λ k. k ≡ key_of m k.student s) out (roll_at r'.rolls at).keys
+    (All-permutation (λ k. k ≡ key_of m k.student s) (key_of m proposer s ∷ (roll_at r.rolls at).keys) (out ∷ (roll_at r'.rolls at).keys) done.offered.together (keyed-offered done)))
+    (λ p.
+    let now = counts-offered p (key_of m proposer s) out (roll_at r.rolls at).keys (roll_at r'.rolls at).keys done.offered.together in
+    let hand_term = ap {B = ℕ} (λ j. cond (p j) 1 0) (key-student m proposer s) in
+    let by_hand = split-except first m done.hand.fits.well_formed p next s (next-among m r.ranks proposer s done.stands) done.stands in
+    let by_out = split-except second m done.hand.fits.well_formed p next s (next-among m r.ranks out.student s put.stands) put.stands in
+    omega (arith, now, hand_term, by_hand, by_out, (roll-before_counted done).exact p)))
+    exactly

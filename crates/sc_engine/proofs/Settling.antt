@@ -1,13 +1,11 @@
 -- All students enter, in whatever order.
 use Rattle.std.proofs.Common.{◌≡◌, inl, inr, refl, ap, sym, subst, ◌∙◌, ℕ, ◌+◌, ◌<◌, ◌==◌, nat_eq, Bool, true, false, cond, ◌||◌, List, [], ◌∷◌, ◌++◌, length, get_or, take, filter, Option, Some, None, Contains, slice_get, add-one, arith}
 use Rattle.std.specs.List.{list_any, IsDistinct}
-use Rattle.std.specs.List.Sorted.{IsPermutation}
 use Rattle.std.specs.Map.{keys_of}
 use Rattle.std.proofs.lemmas.Bool.{cases_Bool, eqb-true, eq-eqb, false≢true, cond-true, cond-false, or_right, false_from_ne_true}
 use Rattle.std.proofs.lemmas.Option.{slice_get_within, get_or_from_slice_get}
 use Rattle.std.proofs.lemmas.List.Folds.{list_any_none}
 use Rattle.std.proofs.lemmas.List.{get_or-take, get_or_default, length-take}
-use Rattle.std.proofs.lemmas.List.Sorted.{list_any-IsPermutation}
 use Rattle.std.proofs.Math.Seq.{take-length, take-suc}
 use Rattle.std.proofs.lemmas.Map.Keys.{apart_from_distinct}
 use Rattle.sc_papers.specs.Assignment.{assigned}
@@ -81,15 +79,6 @@ settles-more m old new k i here before enters = record {
   entered = (entered-next m old new (students_of m) k i here (settled-entered m old (take k (students_of m)) before) enters).entered;
   settled = enters.continues [] before.settled;
   counted = omega (arith, before.counted, enters.counted);
-}
-
--- the same students in another order
-pub entered-permuted : (m : Market) (r : RoundView) (xs ys : List ℕ) → IsPermutation xs ys → HaveEntered m r ys → HaveEntered m r xs
-entered-permuted m r xs ys moved these = record {
-  fits = these.fits;
-  entered = λ i. these.entered i ∙ sym (list_any-IsPermutation (nat_eq i) xs ys moved);
-  earlier = these.earlier;
-  continues = these.continues;
 }
 
 -- nobody stands at a choice where nobody has entered

@@ -8,3 +8,4 @@ pub mod SettledPlaces
 pub mod Noted
 pub mod Fresh
 pub mod Leaving
+pub mod Together

@@ -1,11 +1,11 @@
 -- Where the students and the schools of a round stand, as contracts see it.
-use Rattle.std.specs.Prelude.{◌≡◌, ℕ, ◌+◌, ◌-◌, ◌≤◌, ◌<◌, nat_eq, ◌==◌, Bool, true, false, List, [], ◌∷◌, ◌++◌, length, Option, None, Some, All, IfSome, IsSome, filter, map, sum_by, is_some, position, slice_get, slice_index_or, take, if◌then◌else◌}
+use Rattle.std.specs.Prelude.{◌≡◌, ℕ, ◌+◌, ◌-◌, ◌≤◌, ◌<◌, nat_eq, ◌==◌, ◌&&◌, not, Bool, true, false, List, [], ◌∷◌, ◌++◌, length, Option, None, Some, All, IfSome, IsSome, filter, map, sum_by, is_some, position, slice_get, slice_index_or, take, if◌then◌else◌}
 use Rattle.std.specs.List.{list_any}
 use Rattle.std.specs.List.Sorted.{IsPermutation}
 use Rattle.std.specs.Option.{option_map_or, option_and_then, option_to_list}
 use Rattle.sc_papers.specs.Key.{key_of, is_before}
-use Rattle.sc_papers.specs.Log.{next_choice, IsSettled}
-use Rattle.sc_papers.specs.Chain.{InChain, and_one}
+use Rattle.sc_papers.specs.Log.{next_choice, IsSettled, IsValidLog}
+use Rattle.sc_papers.specs.Chain.{and_one}
 use Rattle.sc_papers.specs.Market.{Market, choices_of, schools_of, seats_of, student_at, students_of}
 use Rattle.sc_papers.specs.Matching.{Matching, has}
 use Rattle.sc_papers.specs.Progress.{placed}
@@ -13,7 +13,7 @@ use Rattle.sc_papers.specs.Restriction.{restricted}
 use Rattle.sc_papers.specs.WellFormed.{WellFormed, WithinLimits}
 use Rattle.sc_papers.specs.declared.key.Key.{Key}
 use Rattle.sc_papers.specs.declared.rejection.Rejection.{Rejection}
-use Rattle.sc_seats.specs.Roll.{RollView}
+use Rattle.sc_seats.specs.Roll.{RollView, Refuses}
 
 -- what a round holds: for each student, by position, the rank in their choices at which they stand, or
 -- none where they haven't entered, as nobody has who comes after the last of these; each school's roll, by
@@ -111,10 +111,29 @@ pub record Continues (m : Market) (earlier : List Rejection) (r : RoundView) : T
 abbrev pub without_log : RoundView → RoundView
 without_log r = record r { log = []; proposals = 0 }
 
--- the same in the course of a chain, where a student is to propose
-pub record Midway (m : Market) (earlier : List Rejection) (r : RoundView) (proposer : ℕ) : Type 0 where
-  pub chain : InChain (entered_papers m r.ranks) (earlier ++ r.log) proposer
+-- the same while some are yet to propose: after an earlier log the round's log is valid for the papers of those who have
+-- entered, and the students stand at their next choices
+pub record Midway (m : Market) (earlier : List Rejection) (r : RoundView) : Type 0 where
+  pub valid : IsValidLog (entered_papers m r.ranks) (earlier ++ r.log)
   pub next : (i : ℕ) → next_choice (entered_papers m r.ranks) (earlier ++ r.log) i ≡ next_of m r.ranks i
+
+-- the round fits the papers but for students who are away, and this one is
+pub record IsAway (m : Market) (r : RoundView) (away : ℕ → Bool) (i : ℕ) : Type 0 where
+  pub fits : FitsBut m r away
+  pub gone : away i ≡ true
+
+-- this student and perhaps others are away
+abbrev pub IsSomeAway : Market → RoundView → ℕ → Type 0
+IsSomeAway m r i = (away : ℕ → Bool) × IsAway m r away i
+
+-- the school at which a student stands would refuse them at once
+pub record IsPutOut (m : Market) (r : RoundView) (entry : Rejection) : Type 0 where
+  pub stands : next_of m r.ranks entry.student ≡ Some entry.school
+  pub refused : Refuses (roll_of m r.rolls entry.school).keys (roll_of m r.rolls entry.school).seats (key_of m entry.student entry.school)
+
+-- whoever would be refused at once where they stand still would be, but for one student
+abbrev pub OthersStay : Market → RoundView → RoundView → ℕ → Type 0
+OthersStay m old new i = (entry : Rejection) → (entry.student ≡ i → ⊥) → IsPutOut m old entry → IsPutOut m new entry
 
 -- what an offer to the roll at a position does: the others stay
 pub record OffersAt (old new : List RollView) (at : ℕ) (key : Key) (out : Option Key) : Type 0 where
@@ -149,31 +168,24 @@ abbrev pub CountsProposals : Market → RoundView → (ℕ → Bool) → RoundVi
 CountsProposals m old away new away' =
     new.proposals + (length old.log + standing_but m old.ranks away) ≡ old.proposals + (length new.log + standing_but m new.ranks away')
 
--- the chain of the student who proposes has come to its end
-pub record ChainEnds (m : Market) (old new : RoundView) (proposer : ℕ) : Type 0 where
-  pub fits : Fits m new
+-- what proposals do to a round in which some students are away before and others after
+pub record Moves (m : Market) (old : RoundView) (away : ℕ → Bool) (new : RoundView) (away' : ℕ → Bool) : Type 0 where
+  pub fits : FitsBut m new away'
   pub entered : SameEntered m old new
-  pub continues : (earlier : List Rejection) → Midway m earlier old proposer → Continues m earlier new
+  pub midway : (earlier : List Rejection) → Midway m earlier old → Midway m earlier new
   pub extends : Extends old.log new.log
-  pub counted : CountsProposals m old (only proposer) new nobody
-
--- the chain goes on with another student who is to propose
-pub record ChainGoesOn (m : Market) (old new : RoundView) (proposer out : ℕ) : Type 0 where
-  pub fits : FitsBut m new (only out)
-  pub entered : SameEntered m old new
-  pub continues : (earlier : List Rejection) → Midway m earlier old proposer → Midway m earlier new out
-  pub extends : Extends old.log new.log
-  pub counted : CountsProposals m old (only proposer) new (only out)
-
--- schools have refused the student who proposes, who is to propose still
-pub record PassedOver (m : Market) (old new : RoundView) (proposer : ℕ) : Type 0 where
-  pub goes_on : ChainGoesOn m old new proposer proposer
+  pub counted : CountsProposals m old away new away'
   pub left : choices_left m new.ranks ≤ choices_left m old.ranks
 
--- what one proposal does: whoever is put out proposes next
-abbrev pub Proposes : Market → RoundView → RoundView → ℕ → Option ℕ → Type 0
-Proposes m old new proposer None = ChainEnds m old new proposer
-Proposes m old new proposer (Some out) = ChainGoesOn m old new proposer out × (choices_left m new.ranks < choices_left m old.ranks)
+-- the students who are away, without one
+abbrev pub without : (ℕ → Bool) → ℕ → ℕ → Bool
+without away i = λ j. away j && not (j == i)
+
+-- what one proposal does: the student who proposes is away no longer, and whoever is put out is
+abbrev pub Proposes : Market → RoundView → (ℕ → Bool) → RoundView → ℕ → Option Rejection → Type 0
+Proposes m old away new proposer None = Moves m old away new (without away proposer)
+Proposes m old away new proposer (Some out) =
+    Moves m old away new (and_one (without away proposer) out.student) × IsPutOut m new out × (without away proposer out.student ≡ false)
 
 -- the round fits the papers, and the student at a position of the order of entry is yet to enter
 pub record IsYetToEnter (m : Market) (r : RoundView) (at : ℕ) : Type 0 where

@@ -110,7 +110,7 @@ fn clear_noted(ranks: &mut Vec<Option<u8>>, noted: &[usize], is_noting: bool)
 }
 
 impl RankTable {
-    ghost use Rattle.std.specs.Prelude.{[], remove};
+    ghost use Rattle.std.specs.Prelude.{[], remove, replicate};
 
     /// Nobody stands anywhere. Memory is taken for so many students. The only error is want of memory.
     pub(crate) fn with_room(alloc: Global, students: usize) -> Result<Self, AllocError>
@@ -150,6 +150,17 @@ impl RankTable {
             self.noted.push(at)?;
         }
         self.ranks[at] = Some(rank);
+        Ok(())
+    }
+
+    /// Makes so many students stand at their first choices, and nobody else stand anywhere. Where somebody stands is no longer
+    /// noted.
+    pub(crate) fn put_everybody(&mut self, students: usize) -> Result<(), AllocError>
+        ensures { OnOk result (self.new ≡ replicate students (Some 0)) }
+    {
+        self.is_noting = false;
+        self.ranks.clear();
+        self.ranks.resize(students, Some(0))?;
         Ok(())
     }
 

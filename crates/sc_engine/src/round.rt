@@ -14,6 +14,7 @@ mod resume;
 mod rolls;
 mod starting;
 mod taking;
+mod together;
 
 use crate::rank_table::RankTable;
 use crate::settled::{Settled, SettledPlaces};

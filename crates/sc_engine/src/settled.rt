@@ -11,7 +11,7 @@ ghost use Rattle.sc_engine.specs.Fresh.{IsFresh};
 ghost use Rattle.sc_engine.specs.Round.{view_of};
 ghost use Rattle.sc_engine.specs.RoundView.{SettlesThese};
 
-use crate::applicants::{applicants_by_first_key, enter_applicants};
+use crate::applicants::applicants_by_first_key;
 use crate::round::Round;
 use sc_papers::{Assignment, FlatPapers, Rejection, SchoolNo};
 use sc_seats::{HeapRoll, Roll};
@@ -68,7 +68,7 @@ pub fn settle_by_first_keys(alloc: Global, papers: &FlatPapers) -> Result<Settle
 {
     let mut round: Round<HeapRoll> = Round::start(alloc, papers)?;
     let applicants = applicants_by_first_key(alloc, papers)?;
-    enter_applicants(alloc, &mut round, papers, applicants.as_slice())?;
+    round.enter_together(papers, applicants.as_slice())?;
     drop(applicants);
     let places = round.into_places(papers)?;
     Ok(places)

@@ -25,8 +25,7 @@ fn expect_same(rt: &impl Abort, key: Option<Key>, want: Option<&Key>) {
     assert_eq!(rt; key.as_ref(), want);
 }
 
-/// Offers the key, and sees that the roll told beforehand whether it would be refused, and who may be put out where no seat
-/// is free. Where a growth is refused the roll is as it was, and the key is offered again.
+/// Offers the key, and sees that the roll told beforehand whether it would be refused. Where a growth is refused the roll is as it was, and the key is offered again.
 fn offer_again<R: Roll>(rt: &impl Abort, roll: &mut R, key: &Key) -> Result<Option<Key>, AllocError>
     requires within { length (R.keys roll.old) ≤ R.seats roll.old }
     requires new { ¬ Contains (R.keys roll.old) key.now }
@@ -37,13 +36,6 @@ fn offer_again<R: Roll>(rt: &impl Abort, roll: &mut R, key: &Key) -> Result<Opti
     let held = roll.len();
     let worst = roll.worst();
     let refused = roll.refuses(key);
-    let likely = roll.likely_out().map(|last| last.key());
-    let last_of_full = if held < roll.capacity().get() as usize {
-        None
-    } else {
-        worst
-    };
-    assert_eq!(rt; likely, last_of_full);
     if let Ok(out) = roll.offer(*key) {
         assert_eq!(rt; out == Some(*key), refused);
         return Ok(out);

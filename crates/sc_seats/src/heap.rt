@@ -97,13 +97,6 @@ impl Roll for HeapRoll {
         self.held.last().map(|last| last.key())
     }
 
-    fn likely_out(&self) -> Option<HeldKey> {
-        if self.len() < self.capacity.get() as usize {
-            return None;
-        }
-        self.held.last()
-    }
-
     fn len(&self) -> usize {
         self.held.len()
     }

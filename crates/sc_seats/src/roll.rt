@@ -1,4 +1,4 @@
-ghost use Rattle.std.specs.Prelude.{◌≡◌, ◌↔◌, ℕ, ◌≤◌, ◌-◌, true, List, [], ◌∷◌, ◌++◌, length, All, Contains, IfOk, IfSome, IsSome, IsTrue, None, OnErr, nat_lt, slice_get, if◌then◌else◌};
+ghost use Rattle.std.specs.Prelude.{◌≡◌, ◌↔◌, ℕ, ◌≤◌, ◌-◌, true, List, [], ◌∷◌, ◌++◌, length, All, Contains, IfOk, IfSome, IsSome, IsTrue, OnErr, slice_get};
 ghost use Rattle.std.specs.List.Sorted.{IsPermutation};
 ghost use Rattle.std.specs.Option.{option_to_list};
 ghost use Rattle.sc_papers.specs.Key.{is_before};
@@ -70,12 +70,6 @@ pub trait Roll: Drop {
     /// The last of the keys held, or `None` where none is.
     fn worst(&self) -> Option<Key>
         ensures { result ≡ slice_get (keys self.now) (length (keys self.now) - 1) };
-
-    /// The last of the keys held, with its guess, where no seat is free: who is put out next, unless it is whoever is
-    /// offered a seat then. `None` where a seat is free. In constant time.
-    fn likely_out(&self) -> Option<HeldKey>
-        ensures { result ≡ (if nat_lt (length (keys self.now)) (seats self.now) then None
-            else slice_get (keys self.now) (length (keys self.now) - 1)) };
 
     /// How many keys are held, at most the capacity.
     fn len(&self) -> usize

@@ -109,13 +109,6 @@ impl Roll for SortedRoll {
         self.keys.as_slice().last().map(HeldKey::key)
     }
 
-    fn likely_out(&self) -> Option<HeldKey> {
-        if self.len() < self.capacity.get() as usize {
-            return None;
-        }
-        self.keys.as_slice().last().map(HeldKey::copy)
-    }
-
     fn len(&self) -> usize {
         self.keys.len()
     }

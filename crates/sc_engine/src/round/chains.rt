@@ -1,77 +1,63 @@
 //! Chains of proposals, by which students enter a round.
 
-ghost use Rattle.std.specs.Prelude.{◌≡◌, ℕ, ◌+◌, ◌^◌, ◌<◌, [], ◌∷◌, ◌++◌, Contains, None, Some, length, slice_index_or, slice_set, position, nat_eq, IfOk, IfSome, OnOk};
+ghost use Rattle.std.specs.Prelude.{◌≡◌, ℕ, ◌+◌, ◌^◌, ◌<◌, ◌≤◌, Bool, [], ◌∷◌, ◌++◌, None, Some, length, nat_eq, position, slice_index_or, slice_set, IfOk, OnOk};
 ghost use Rattle.std.specs.Option.{option_map};
 ghost use Rattle.sc_papers.specs.Market.{student_at, students_of};
 ghost use Rattle.sc_engine.specs.Proposals.{IsProposal};
-ghost use Rattle.sc_engine.specs.RoundView.{OffersAt, roll_at, next_of, FitsBut, only, PassedOver, Proposes, ChainEnds, Enters, IsYetToEnter};
+ghost use Rattle.sc_engine.specs.RoundView.{next_of, choices_left, FitsBut, IsAway, IsPutOut, IsSomeAway, IsYetToEnter, Enters, Moves, OthersStay, Proposes, nobody, only};
 
 use super::Round;
-use super::ranks::{Standing, position_beside, proposal_of};
+use super::ranks::{position_near, proposal_of};
 use super::rolls::{is_refused, offer_to};
 use sc_papers::{FlatPapers, LONGEST_LIST, Proposal, Rejection};
 use sc_seats::{HeldKey, Roll};
 use std::alloc::AllocError;
 
+/// A student whom a school puts out, with its rejection of them, which is yet to be noted, and where they may stand in the
+/// order of entry. Until it is noted they stand where they stood.
+#[derive(Clone, Copy)]
+pub(crate) struct PutOut {
+    pub(crate) entry: Rejection,
+    pub(crate) guess: usize,
+}
+
 impl<R: Roll> Round<R> {
     ghost use Rattle.sc_engine.specs.Round.{view_of};
 
-    /// Offers a seat of the school at the position to the key, which is one proposal.
-    fn offer(&mut self, at: usize, key: HeldKey) -> Result<Option<HeldKey>, AllocError>
-        requires within { at < length self.old.rolls.items }
-        requires count_fits { self.old.proposals + 1 < 2 ^ 64 }
-        requires new { ¬ Contains (roll_at (view_of R.keys R.seats self.old).rolls at).keys key }
-        ensures offered { IfOk result (λ out. OffersAt (view_of R.keys R.seats self.old).rolls
-            (view_of R.keys R.seats self.new).rolls at key out) }
-        ensures ranks { self.new.ranks ≡ self.old.ranks }
-        ensures log { self.new.log.items ≡ self.old.log.items }
-        ensures proposals { OnOk result (self.new.proposals ≡ self.old.proposals + 1) }
-    {
-        let put_out = offer_to(&mut self.rolls, at, key)?;
-        self.proposals += 1;
-        Ok(put_out)
-    }
-
-    /// Where whoever the school at a position would put out next stands, if anybody. To look them up before an offer asks
-    /// for their row, and so the wait for it in far memory passes while the roll is put in order.
-    fn likely_out(&self, papers: &FlatPapers, at: usize) -> Option<Standing>
-        ensures { IfSome result (λ standing. position (nat_eq standing.student) (students_of papers.now)
-            ≡ Some standing.at) }
-    {
-        let last = self.rolls.get(at)?.likely_out()?;
-        let student = last.key().student;
-        let at = papers.student_position_near(student, last.guess())?;
-        Some(Standing { student, at })
-    }
-
-    /// Notes that the school rejects the student at the position, who moves on to the next choice.
+    /// Notes what a proposal of the student at the position came to: the school rejects them, and they move on to the next
+    /// choice.
     ///
     /// It is taken into the loop over a student's choices, where most rejections are.
     #[inline(always)]
     fn reject(&mut self, at: usize, entry: Rejection) -> Result<(), AllocError>
-        requires { (rank : ℕ) → slice_index_or self.old.ranks at None ≡ Some rank → rank < LONGEST_LIST }
+        requires count_fits { self.old.proposals + 1 < 2 ^ 64 }
+        requires rank { (rank : ℕ) → slice_index_or self.old.ranks at None ≡ Some rank → rank < LONGEST_LIST }
         ensures log { OnOk result (self.new.log.items ≡ self.old.log.items ++ entry ∷ []) }
         ensures moved { OnOk result ((rank : ℕ) → slice_index_or self.old.ranks at None ≡ Some rank
             → self.new.ranks ≡ slice_set self.old.ranks at (Some (rank + 1))) }
         ensures rolls { self.new.rolls.items ≡ self.old.rolls.items }
-        ensures proposals { self.new.proposals ≡ self.old.proposals }
+        ensures proposals { OnOk result (self.new.proposals ≡ self.old.proposals + 1) }
     {
         self.log.push(entry)?;
+        self.proposals += 1;
         self.ranks.move_on(at);
         Ok(())
     }
 
-    /// The first proposal of the student at the position, from their next choice on, that its school does not refuse at
-    /// once, if there is one. Those that it does are made: each is counted and noted, and no roll changes. The student's
-    /// row is at hand after the first of them.
+    /// The first proposal of the student at the position, who is away, from their next choice on, that its school does not
+    /// refuse at once, if there is one. Those that it does are made and noted, and no roll changes. The student's row is at
+    /// hand after the first of them.
     fn next_open(
         &mut self,
         papers: &FlatPapers,
         proposer: usize,
     ) -> Result<Option<Proposal>, AllocError>
         requires within { proposer < length papers.now.students }
-        requires fits { FitsBut papers.now (view_of R.keys R.seats self.old) (only (student_at papers.now proposer)) }
-        ensures passed { OnOk result (PassedOver papers.now (view_of R.keys R.seats self.old)
+        requires away { IsSomeAway papers.now (view_of R.keys R.seats self.old) (student_at papers.now proposer) }
+        ensures passed { OnOk result ((away : ℕ → Bool)
+            → IsAway papers.now (view_of R.keys R.seats self.old) away (student_at papers.now proposer)
+            → Moves papers.now (view_of R.keys R.seats self.old) away (view_of R.keys R.seats self.new) away) }
+        ensures others { OnOk result (OthersStay papers.now (view_of R.keys R.seats self.old)
             (view_of R.keys R.seats self.new) (student_at papers.now proposer)) }
         ensures next { IfOk result (IsProposal papers.now (student_at papers.now proposer)
             (next_of papers.now self.new.ranks (student_at papers.now proposer))) }
@@ -80,7 +66,6 @@ impl<R: Roll> Round<R> {
             if !is_refused(&self.rolls, proposal.position, &proposal.key) {
                 return Ok(Some(proposal));
             }
-            self.proposals += 1;
             let student = proposal.key.student;
             let school = proposal.school;
             self.reject(proposer, Rejection { student, school })?;
@@ -88,51 +73,57 @@ impl<R: Roll> Round<R> {
         Ok(None)
     }
 
-    /// The student at the position proposes, from their next choice on, until a school does not refuse them at once: the
-    /// position of whoever is put out there, if anybody.
-    fn propose(&mut self, papers: &FlatPapers, proposer: usize) -> Result<Option<usize>, AllocError>
-        requires within { proposer < length papers.now.students }
-        requires fits { FitsBut papers.now (view_of R.keys R.seats self.old) (only (student_at papers.now proposer)) }
-        ensures within { IfOk result (λ out. IfSome out (λ next. next < length papers.now.students)) }
-        ensures proposes { IfOk result (λ out. Proposes papers.now (view_of R.keys R.seats self.old)
-            (view_of R.keys R.seats self.new) (student_at papers.now proposer)
-            (option_map (student_at papers.now) out)) }
-    {
-        let proposal = self.next_open(papers, proposer)?;
-        let out = self.propose_with(papers, proposer, proposal)?;
-        Ok(out)
-    }
-
-    /// The student at the position makes this proposal, if there is one, to their next choice: the position of whoever is
-    /// put out, if anybody.
-    fn propose_with(
+    /// The student at the position, who is away, proposes, from their next choice on, until a school does not refuse them
+    /// at once. Whoever is put out there is away from then on, and that is noted only when they go on.
+    pub(super) fn propose(
         &mut self,
         papers: &FlatPapers,
         proposer: usize,
-        proposal: Option<Proposal>,
-    ) -> Result<Option<usize>, AllocError>
+    ) -> Result<Option<PutOut>, AllocError>
         requires within { proposer < length papers.now.students }
-        requires fits { FitsBut papers.now (view_of R.keys R.seats self.old) (only (student_at papers.now proposer)) }
-        requires next { IsProposal papers.now (student_at papers.now proposer)
-            (next_of papers.now self.old.ranks (student_at papers.now proposer)) proposal }
-        ensures within { IfOk result (λ out. IfSome out (λ next. next < length papers.now.students)) }
-        ensures proposes { IfOk result (λ out. Proposes papers.now (view_of R.keys R.seats self.old)
-            (view_of R.keys R.seats self.new) (student_at papers.now proposer)
-            (option_map (student_at papers.now) out)) }
+        requires away { IsSomeAway papers.now (view_of R.keys R.seats self.old) (student_at papers.now proposer) }
+        ensures proposes { IfOk result (λ out. (away : ℕ → Bool)
+            → IsAway papers.now (view_of R.keys R.seats self.old) away (student_at papers.now proposer)
+            → Proposes papers.now (view_of R.keys R.seats self.old) away (view_of R.keys R.seats self.new)
+            (student_at papers.now proposer) (option_map (λ o. o.entry) out)) }
+        ensures others { OnOk result (OthersStay papers.now (view_of R.keys R.seats self.old)
+            (view_of R.keys R.seats self.new) (student_at papers.now proposer)) }
+        ensures left { OnOk result (choices_left papers.now self.new.ranks
+            ≤ choices_left papers.now self.old.ranks) }
     {
-        let Some(proposal) = proposal else {
+        let Some(proposal) = self.next_open(papers, proposer)? else {
             return Ok(None);
         };
-        let likely = self.likely_out(papers, proposal.position);
         let offered = HeldKey::of(proposal.key, proposer);
-        let Some(out) = self.offer(proposal.position, offered)? else {
+        let Some(out) = offer_to(&mut self.rolls, proposal.position, offered)? else {
+            self.proposals += 1;
             return Ok(None);
         };
         let school = proposal.school;
         let student = out.key().student;
-        let next = position_beside(papers, student, likely, out.guess());
-        self.reject(next, Rejection { student, school })?;
-        Ok(Some(next))
+        let entry = Rejection { student, school };
+        let guess = out.guess();
+        Ok(Some(PutOut { entry, guess }))
+    }
+
+    /// Notes that a student has been put out, who moves on to the next choice. The answer is where they stand in the order of
+    /// entry.
+    pub(super) fn note(&mut self, papers: &FlatPapers, out: PutOut) -> Result<usize, AllocError>
+        requires away { IsSomeAway papers.now (view_of R.keys R.seats self.old) out.entry.student }
+        requires out { IsPutOut papers.now (view_of R.keys R.seats self.old) out.entry }
+        ensures found { IfOk result (λ at. position (nat_eq out.entry.student) (students_of papers.now) ≡ Some at) }
+        ensures noted { OnOk result ((away : ℕ → Bool)
+            → IsAway papers.now (view_of R.keys R.seats self.old) away out.entry.student
+            → Moves papers.now (view_of R.keys R.seats self.old) away (view_of R.keys R.seats self.new) away) }
+        ensures others { OnOk result (OthersStay papers.now (view_of R.keys R.seats self.old)
+            (view_of R.keys R.seats self.new) out.entry.student) }
+        ensures left { OnOk result (choices_left papers.now self.new.ranks
+            < choices_left papers.now self.old.ranks) }
+    {
+        let PutOut { entry, guess } = out;
+        let at = position_near(papers, entry.student, guess);
+        self.reject(at, entry)?;
+        Ok(at)
     }
 
     /// The chain of the student at the position: whoever is put out proposes to the next choice, until
@@ -140,12 +131,12 @@ impl<R: Roll> Round<R> {
     fn chain(&mut self, papers: &FlatPapers, first: usize) -> Result<(), AllocError>
         requires within { first < length papers.now.students }
         requires fits { FitsBut papers.now (view_of R.keys R.seats self.old) (only (student_at papers.now first)) }
-        ensures { OnOk result (ChainEnds papers.now (view_of R.keys R.seats self.old) (view_of R.keys R.seats self.new)
-            (student_at papers.now first)) }
+        ensures { OnOk result (Moves papers.now (view_of R.keys R.seats self.old) (only (student_at papers.now first))
+            (view_of R.keys R.seats self.new) nobody) }
     {
         let mut proposer = first;
         while let Some(out) = self.propose(papers, proposer)? {
-            proposer = out;
+            proposer = self.note(papers, out)?;
         }
         Ok(())
     }

@@ -1,6 +1,6 @@
 //! Where the students of a round stand, by the ranks of their choices.
 
-ghost use Rattle.std.specs.Prelude.{◌≡◌, ℕ, ◌<◌, true, None, Some, length, position, nat_eq, map, slice_index_or, IfOk, IfSome, IsSome};
+ghost use Rattle.std.specs.Prelude.{◌≡◌, ℕ, ◌<◌, true, None, Some, length, position, nat_eq, map, slice_index_or, IfOk, IsSome};
 ghost use Rattle.sc_papers.specs.Assignment.{assigned};
 ghost use Rattle.sc_papers.specs.Market.{is_student, students_of};
 ghost use Rattle.sc_engine.specs.Proposals.{IsProposal};
@@ -102,33 +102,6 @@ pub(super) fn next_near(
     ensures { result ≡ next_of papers.now ranks.now student }
 {
     choice_at(ranks, papers, papers.student_position_near(student, guess)?)
-}
-
-/// A student of the papers, and where they stand in the order of entry.
-#[derive(Clone, Copy)]
-pub(super) struct Standing {
-    pub(super) student: StudentNo,
-    pub(super) at: usize,
-}
-
-/// The position of a student of the papers, who mostly is the one who was looked up before, and else often stands at
-/// the guess: then no number is looked up.
-pub(super) fn position_beside(
-    papers: &FlatPapers,
-    student: StudentNo,
-    likely: Option<Standing>,
-    guess: usize,
-) -> usize
-    requires likely { IfSome likely (λ standing. position (nat_eq standing.student) (students_of papers.now)
-        ≡ Some standing.at) }
-    requires student { is_student papers.now student ≡ true }
-    ensures { position (nat_eq student) (students_of papers.now) ≡ Some result }
-{
-    match likely {
-        Some(standing) if standing.student == student => standing.at,
-        // Those who withdrew since may have made the guess wrong.
-        _ => position_near(papers, student, guess),
-    }
 }
 
 /// The position of a student of the papers, who often stands at the guess: then no number is looked up.

@@ -4,10 +4,10 @@ use Rattle.sc_papers.specs.Key.{key_of}
 use Rattle.sc_papers.specs.Market.{choices_of, seats_of, student_at}
 use Rattle.sc_papers.specs.Matching.{held}
 use Rattle.sc_papers.specs.declared.proposal.Proposal.{Proposal}
-use Rattle.sc_engine.specs.RoundView.{next_of, StandsToo}
+use Rattle.sc_engine.specs.RoundView.{next_of, only, StandsToo}
 use Rattle.sc_engine.specs.Round.{view_of}
 use Rattle.sc_engine.specs.Rolls.{rolls_of}
-use Rattle.sc_engine.proofs.Beginning.{Begun, moved, begins, fits-begun}
+use Rattle.sc_engine.proofs.Beginning.{Begun, moved, begins, away-begun}
 use Rattle.sc_papers.proofs.Entering.{is_some-false}
 use Rattle.sc_papers.proofs.Hands.{student-there}
 use Rattle.sc_engine.proofs.Moves.{roll-new, proposed-told}
@@ -49,7 +49,7 @@ offer_to-requires-clause-new g c =
     let begun : Begun papers old (moved old room at rank) student at rank = begins papers old room student at rank c.requires.fits c.position_near-at.ensures c.requires.absent c.in_ok-make_room.ensures.room c.in_ok-make_room.ensures.same c.in_ok-make_room.ensures.within in
     let (is, place, own) = proposal-told papers at rank c.args.choice.next c.proposal.result c.in-Some.proposal c.rank_in-rank.ensures.rank c.proposal.ensures.school c.proposal.ensures.position c.proposal.ensures.key c.in-Some.is in
     let key = c.of-offered.ensures ∙ own ∙ ap (λ i. key_of papers i c.in-Some.proposal.school) there in
-    roll-new papers (moved old room at rank) student c.in-Some.proposal.school c.in-Some.proposal.position c.of-offered.result (fits-begun begun) place key
+    roll-new papers (moved old room at rank) (only student) student c.in-Some.proposal.school c.in-Some.proposal.position c.of-offered.result (away-begun begun) place key
 
 pub unreachable-requires : goal.unreachable-requires
 unreachable-requires g c =
@@ -83,7 +83,7 @@ returns-clause-stands g c =
     let rolls = rolls_of g.R.Roll.keys g.R.Roll.seats c.offer_to.new.rolls.items in
     subst (λ (ranks : List (Option ℕ)). StandsToo papers old (record old { ranks = ranks; rolls = rolls }) student c.args.choice.next) (sym c.in_ok-put.ensures)
     (put-on_roll begun (record (moved old room at rank) { rolls = rolls }) c.args.choice.next c.in-Some.proposal.school c.in-Some.proposal.position here is
-    (proposed-told papers (moved old room at rank) student c.in-Some.proposal.school c.in-Some.proposal.position c.of-offered.result rolls c.in_ok-out.out None
-    (fits-begun begun) (next-begun begun c.args.choice.next here ∙ is) place key c.in_ok-out.ensures
+    (proposed-told papers (moved old room at rank) (only student) student c.in-Some.proposal.school c.in-Some.proposal.position c.of-offered.result rolls c.in_ok-out.out None
+    (away-begun begun) (next-begun begun c.args.choice.next here ∙ is) place key c.in_ok-out.ensures
     (is_some-false c.in_ok-out.out (sym c.is_some.ensures ∙ c.if-is_some.false)))
     refl refl refl)

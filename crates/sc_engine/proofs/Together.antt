@@ -1,0 +1,170 @@
+-- Everybody proposes, several one after the other.
+use Rattle.std.proofs.Common.{◌≡◌, inl, inr, refl, ap, sym, subst, ◌∙◌, ℕ, ◌<◌, ◌==◌, nat_eq, Bool, false, not, ◌&&◌, ◌||◌, List, [], ◌∷◌, ◌++◌, length, map, drop, get_or, Option, None, Some, All, Contains, position, append_assoc, append-nil, ◌+◌, arith}
+use Rattle.std.specs.List.{AllByRecursion, IsDistinct}
+use Rattle.std.specs.List.Sorted.{IsPermutation}
+use Rattle.std.proofs.lemmas.Bool.{cases_eq, eq-eqb, ne_eqb, false≢true, and_right}
+use Rattle.std.proofs.lemmas.Cmp.{nat_eq_equiv}
+use Rattle.std.specs.Option.{option_to_list}
+use Rattle.std.proofs.lemmas.List.{drop_more, map-append}
+use Rattle.std.proofs.lemmas.List.Elements.{All-nil, All-append, All-contains, All-contains_itself, All-cons, All-tail, All-weaker, Contains-append_right}
+use Rattle.std.proofs.lemmas.List.Sorted.{IsPermutation-middle, list_any-IsPermutation}
+use Rattle.std.proofs.lemmas.Map.Keys.{IsDistinct-head, IsDistinct-tail, IsDistinct-push, IsDistinct-IsPermutation}
+use Rattle.sc_papers.specs.Chain.{and_one}
+use Rattle.sc_papers.specs.Market.{Market, student_at, students_of}
+use Rattle.sc_papers.specs.declared.rejection.Rejection.{Rejection}
+use Rattle.sc_papers.proofs.Counting.{contains-cons, contains-head, contains-tail}
+use Rattle.sc_papers.proofs.Hands.{student-there}
+use Rattle.sc_papers.proofs.Positions.{any-among}
+use Rattle.sc_papers.proofs.Rejections.{any-push}
+use Rattle.sc_engine.specs.RoundView.{RoundView, FitsBut, HaveEntered, IsAway, IsPutOut, Moves, OthersStay, Proposes, without, without_log}
+use Rattle.sc_engine.specs.Applicants.{numbers_of}
+use Rattle.sc_engine.specs.Together.{all_of, among, Waits}
+use Rattle.sc_engine.specs.declared.applicants.Applicant.{Applicant}
+use Rattle.sc_engine.proofs.Forgetting.{fits_but-without_log, midway-without_log}
+use Rattle.sc_engine.proofs.Proposals.{and-keeps}
+use Rattle.sc_engine.proofs.Steps.{continues-midway}
+
+-- a number that differs from each of a list is not among them
+none-among : (x : ℕ) (xs : List ℕ) → AllByRecursion (λ y. nat_eq x y ≡ false) xs → among xs x ≡ false
+none-among x [] apart = refl
+none-among x (y ∷ ys) apart = ap (λ b. b || among ys x) apart.0 ∙ none-among x ys apart.1
+
+-- the first is not among the others
+first-absent : (x : ℕ) (xs : List ℕ) → IsDistinct nat_eq (x ∷ xs) → among xs x ≡ false
+first-absent x xs differ = none-among x xs (IsDistinct-head nat_eq x xs differ)
+
+-- leaving out the first leaves the others
+without-first : (x : ℕ) (xs : List ℕ) → IsDistinct nat_eq (x ∷ xs) → without (among (x ∷ xs)) x ≡ among xs
+without-first x xs differ = λ t j. others j t
+  where
+    others : (j : ℕ) → (among (x ∷ xs) j && not (j == x)) ≡ among xs j
+    others j = elim (cases_eq j x) [
+      | inl is ↦ and_right (among (x ∷ xs) j) (not (j == x)) (ap not (eq-eqb j x is)) ∙ sym (ap (among xs) is ∙ first-absent x xs differ)
+      | inr apart ↦ and-keeps (among (x ∷ xs) j) (not (j == x)) (ap not (ne_eqb j x apart)) ∙ ap (λ b. b || among xs j) (ne_eqb j x apart)
+    ]
+
+-- in another order
+among-permuted : (xs ys : List ℕ) → IsPermutation xs ys → among xs ≡ among ys
+among-permuted xs ys moved = λ t i. list_any-IsPermutation (nat_eq i) xs ys moved t
+
+contains-student : (outs : List Rejection) (e : Rejection) → Contains outs e → Contains (map (λ (out : Rejection). out.student) outs) e.student
+contains-student [] e (k, low, at) = absurd (omega (arith, low))
+contains-student (o ∷ os) e held = elim (contains-cons o os e held) [
+  | inl same ↦ subst (Contains (map (λ (out : Rejection). out.student) (o ∷ os))) (ap (λ (out : Rejection). out.student) same) (contains-head o.student (map (λ (out : Rejection). out.student) os))
+  | inr later ↦ contains-tail o.student (map (λ (out : Rejection). out.student) os) e.student (contains-student os e later)
+]
+
+-- whoever has been put out stays so where another student moves
+stay-put : {m : Market} {r r' : RoundView} (i : ℕ) (hands : List ℕ) (outs : List Rejection) → OthersStay m r r' i → among (all_of hands outs) i ≡ false → All (IsPutOut m r) outs → All (IsPutOut m r') outs
+stay-put {m} {r} {r'} i hands outs stay absent all =
+    All-weaker (Contains outs) (IsPutOut m r')
+    (λ e held. stay e
+    (λ same. false≢true (sym absent ∙ any-among (all_of hands outs) i
+    (subst (Contains (all_of hands outs)) same (Contains-append_right hands (map (λ (out : Rejection). out.student) outs) e.student (contains-student outs e held)))))
+    (All-contains (IsPutOut m r) outs e all held))
+    outs (All-contains_itself outs)
+
+-- the first of those who wait is away
+pub waits_away : (m : Market) (r : RoundView) (i : ℕ) (hands : List ℕ) (outs : List Rejection) → Waits m r (i ∷ hands) outs → IsAway m r (among (all_of (i ∷ hands) outs)) i
+waits_away m r i hands outs waits = record {
+  fits = waits.fits;
+  gone = any-among (all_of (i ∷ hands) outs) i (contains-head i (all_of hands outs));
+}
+
+-- whose order does not matter
+put-first : (hands : List ℕ) (e : Rejection) (outs : List Rejection) → IsPermutation (all_of hands (e ∷ outs)) (all_of (e.student ∷ hands) outs)
+put-first hands e outs = IsPermutation-middle hands e.student (map (λ (out : Rejection). out.student) outs)
+
+pub put_out_away : (m : Market) (r : RoundView) (hands : List ℕ) (e : Rejection) (outs : List Rejection) → Waits m r hands (e ∷ outs) → IsAway m r (among (all_of hands (e ∷ outs))) e.student
+put_out_away m r hands e outs waits = record {
+  fits = waits.fits;
+  gone = any-among (all_of hands (e ∷ outs)) e.student (Contains-append_right hands (map (λ (out : Rejection). out.student) (e ∷ outs)) e.student (contains-head e.student (map (λ (out : Rejection). out.student) outs)));
+}
+
+-- a rejection is noted: the student is to propose
+pub waits_noted : (m : Market) (r r' : RoundView) (hands : List ℕ) (e : Rejection) (outs : List Rejection) → Waits m r hands (e ∷ outs)
+    → Moves m r (among (all_of hands (e ∷ outs))) r' (among (all_of hands (e ∷ outs))) → OthersStay m r r' e.student → Waits m r' (e.student ∷ hands) outs
+waits_noted m r r' hands e outs waits moves stay =
+    let differ = IsDistinct-IsPermutation nat_eq nat_eq_equiv.symm (all_of hands (e ∷ outs)) (all_of (e.student ∷ hands) outs) (put-first hands e outs) waits.differ in
+    record {
+      fits = subst (FitsBut m r') (among-permuted (all_of hands (e ∷ outs)) (all_of (e.student ∷ hands) outs) (put-first hands e outs)) moves.fits;
+      entered = λ i. moves.entered i ∙ waits.entered i;
+      differ = differ;
+      put_out = stay-put e.student hands outs stay (first-absent e.student (all_of hands outs) differ) (All-tail (IsPutOut m r) e outs waits.put_out);
+      earlier = waits.earlier;
+      midway = moves.midway waits.earlier waits.midway;
+    }
+
+-- the first proposes, and nobody is put out
+pub waits_held : (m : Market) (r r' : RoundView) (i : ℕ) (hands : List ℕ) (outs : List Rejection) → Waits m r (i ∷ hands) outs
+    → Moves m r (among (all_of (i ∷ hands) outs)) r' (without (among (all_of (i ∷ hands) outs)) i) → OthersStay m r r' i → Waits m r' hands outs
+waits_held m r r' i hands outs waits moves stay = record {
+  fits = subst (FitsBut m r') (without-first i (all_of hands outs) waits.differ) moves.fits;
+  entered = λ j. moves.entered j ∙ waits.entered j;
+  differ = IsDistinct-tail nat_eq i (all_of hands outs) waits.differ;
+  put_out = stay-put i hands outs stay (first-absent i (all_of hands outs) waits.differ) waits.put_out;
+  earlier = waits.earlier;
+  midway = moves.midway waits.earlier waits.midway;
+}
+
+-- another is put out, and waits
+pub waits_put_out : (m : Market) (r r' : RoundView) (i : ℕ) (hands : List ℕ) (outs : List Rejection) (out : Rejection) → Waits m r (i ∷ hands) outs
+    → Moves m r (among (all_of (i ∷ hands) outs)) r' (and_one (without (among (all_of (i ∷ hands) outs)) i) out.student) → IsPutOut m r' out → without (among (all_of (i ∷ hands) outs)) i out.student ≡ false
+    → OthersStay m r r' i → Waits m r' hands (outs ++ out ∷ [])
+waits_put_out m r r' i hands outs out waits moves put here stay =
+    let rest : List ℕ = all_of hands outs in
+    let more : all_of hands (outs ++ out ∷ []) ≡ rest ++ out.student ∷ [] = ap (λ l. hands ++ l) (map-append (λ (o : Rejection). o.student) outs (out ∷ [])) ∙ sym (append_assoc hands (map (λ (o : Rejection). o.student) outs) (out.student ∷ [])) in
+    let left : without (among (i ∷ rest)) i ≡ among rest = without-first i rest waits.differ in
+    record {
+      fits = subst (FitsBut m r') (ap (λ away. and_one away out.student) left ∙ (λ t j. sym (any-push (nat_eq j) rest out.student) t) ∙ ap among (sym more)) moves.fits;
+      entered = λ j. moves.entered j ∙ waits.entered j;
+      differ = subst (IsDistinct nat_eq) (sym more) (IsDistinct-push nat_eq_equiv rest out.student (IsDistinct-tail nat_eq i rest waits.differ) (sym (ap (λ (away : ℕ → Bool). away out.student) left) ∙ here));
+      put_out = All-append (IsPutOut m r') outs (out ∷ []) (stay-put i hands outs stay (first-absent i rest waits.differ) waits.put_out) (All-cons (IsPutOut m r') out [] put (All-nil (IsPutOut m r')));
+      earlier = waits.earlier;
+      midway = moves.midway waits.earlier waits.midway;
+    }
+
+-- the log is forgotten
+pub waits_forgotten : (m : Market) (r : RoundView) (hands : List ℕ) (outs : List Rejection) → Waits m r hands outs → Waits m (without_log r) hands outs
+waits_forgotten m r hands outs waits = record {
+  fits = fits_but-without_log m r (among (all_of hands outs)) waits.fits;
+  entered = waits.entered;
+  differ = waits.differ;
+  put_out = All-weaker (IsPutOut m r) (IsPutOut m (without_log r)) (λ e put. record { stands = put.stands; refused = put.refused }) outs waits.put_out;
+  earlier = waits.earlier ++ r.log;
+  midway = midway-without_log m r waits.earlier waits.midway;
+}
+
+-- nobody waits any more
+pub waits_done : (m : Market) (r : RoundView) → Waits m r [] [] → HaveEntered m r (students_of m)
+waits_done m r waits = record {
+  fits = waits.fits;
+  entered = waits.entered;
+  earlier = waits.earlier;
+  continues = continues-midway m r waits.fits waits.earlier waits.midway;
+}
+
+-- what one proposal makes of those who wait
+pub waits_proposed : (m : Market) (r r' : RoundView) (i : ℕ) (hands : List ℕ) (outs : List Rejection) (out : Option Rejection) → Waits m r (i ∷ hands) outs
+    → Proposes m r (among (all_of (i ∷ hands) outs)) r' i out → OthersStay m r r' i → Waits m (without_log r') hands (outs ++ option_to_list out)
+waits_proposed m r r' i hands outs None waits told stay =
+    waits_forgotten m r' hands (outs ++ []) (subst (Waits m r' hands) (sym (append-nil outs)) (waits_held m r r' i hands outs waits told stay))
+waits_proposed m r r' i hands outs (Some out) waits told stay =
+    waits_forgotten m r' hands (outs ++ out ∷ []) (waits_put_out m r r' i hands outs out waits told.0 told.1 told.2 stay)
+
+-- those who are left of some applicants
+pub applicants-left : (m : Market) (applicants : List Applicant) (k : ℕ) (d : Applicant) → k < length applicants → numbers_of m (drop k applicants) ≡ student_at m (get_or applicants k d).position ∷ numbers_of m (drop (k + 1) applicants)
+applicants-left m applicants k d low = ap (numbers_of m) (drop_more applicants k d low)
+
+-- the rejection of the first of them is noted, who is to propose
+pub waits_noted_first : (m : Market) (r r' : RoundView) (hands : List ℕ) (e : Rejection) (outs : List Rejection) (at : ℕ) → position (nat_eq e.student) (students_of m) ≡ Some at
+    → ((away : ℕ → Bool) → IsAway m r away e.student → Moves m r away r' away) → OthersStay m r r' e.student
+    → Waits m r hands (e ∷ outs) → Waits m r' (student_at m at ∷ hands) outs
+waits_noted_first m r r' hands e outs at found moves stay waits =
+    subst (λ (i : ℕ). Waits m r' (i ∷ hands) outs) (sym (student-there m e.student at found))
+    (waits_noted m r r' hands e outs waits (moves (among (all_of hands (e ∷ outs))) (put_out_away m r hands e outs waits)) stay)
+
+-- a list of no length has no items
+pub no-items : {X : Type 0} (xs : List X) → length xs < 1 → xs ≡ []
+no-items [] few = refl
+no-items (x ∷ xs) few = absurd (omega (arith, few))

@@ -1,0 +1,177 @@
+//! Rounds that everybody enters at once, several proposing one after the other.
+
+ghost use Rattle.std.specs.Prelude.{◌≡◌, ℕ, ◌+◌, ◌<◌, ◌≤◌, ◌∷◌, ◌++◌, [], false, All, List, length, map, OnErr, OnOk};
+ghost use Rattle.sc_papers.specs.Market.{student_at, students_of};
+ghost use Rattle.sc_papers.specs.declared.rejection.Rejection.{Rejection as Entry};
+ghost use Rattle.sc_engine.specs.Applicants.{numbers_of, AreEverybody, IsWithin};
+ghost use Rattle.sc_engine.specs.Fresh.{IsFresh};
+ghost use Rattle.sc_engine.specs.RoundView.{HaveEntered, choices_left};
+ghost use Rattle.sc_engine.specs.Together.{entries_of, SomeWait, Waits};
+
+use super::Round;
+use super::chains::PutOut;
+use crate::applicants::Applicant;
+use sc_papers::{ClassedChoice, FlatPapers};
+use sc_seats::Roll;
+use std::alloc::AllocError;
+use std::collections::VecDeque;
+
+/// How many rows are asked for at once.
+const AHEAD: usize = 16;
+
+/// How many may wait before they propose.
+const MOST_WAITING: usize = 32;
+
+/// Asks for the row of the student at a position, if there is one: to read it to its end brings it near. Nobody looks at what
+/// was read: it goes into a list, since a read that goes nowhere is none.
+fn ask_for_row(
+    papers: &FlatPapers,
+    at: usize,
+    read: &mut Vec<ClassedChoice>,
+) -> Result<(), AllocError> {
+    if at >= papers.students_len() {
+        return Ok(());
+    }
+    if let Some(last) = papers.classed_choices_at(at).last() {
+        read.push(*last)?;
+    }
+    Ok(())
+}
+
+/// Asks for the rows of the next of these students, from a turn on, so that the waits of many for far memory pass side by
+/// side.
+fn ask_for_applicants(
+    papers: &FlatPapers,
+    applicants: &[Applicant],
+    turn: usize,
+    read: &mut Vec<ClassedChoice>,
+) -> Result<(), AllocError> {
+    read.clear();
+    for place in turn..turn.saturating_add(AHEAD) {
+        let Some(applicant) = applicants.get(place) else {
+            return Ok(());
+        };
+        ask_for_row(papers, applicant.position as usize, read)?;
+    }
+    Ok(())
+}
+
+/// The same for the first of those who have been put out, where they may stand.
+fn ask_for_put_out(
+    papers: &FlatPapers,
+    waiting: &VecDeque<PutOut>,
+    read: &mut Vec<ClassedChoice>,
+) -> Result<(), AllocError> {
+    read.clear();
+    for place in 0..AHEAD {
+        let Some(out) = waiting.get(place) else {
+            return Ok(());
+        };
+        ask_for_row(papers, out.guess, read)?;
+    }
+    Ok(())
+}
+
+impl<R: Roll> Round<R> {
+    ghost use Rattle.sc_engine.specs.Round.{view_of, is_spent};
+
+    /// The student at the position, who waits, proposes, and whoever is put out waits from then on. Nobody asks for the
+    /// rejections, and so they are forgotten.
+    fn propose_on(
+        &mut self,
+        papers: &FlatPapers,
+        proposer: usize,
+        waiting: &mut VecDeque<PutOut>,
+    ) -> Result<(), AllocError>
+        requires within { proposer < length papers.now.students }
+        requires wait { SomeWait papers.now (view_of R.keys R.seats self.old) (student_at papers.now proposer) }
+        ensures wait { OnOk result ((hands : List ℕ) (outs : List Entry)
+            → Waits papers.now (view_of R.keys R.seats self.old) (student_at papers.now proposer ∷ hands)
+            (outs ++ entries_of waiting.old.items)
+            → Waits papers.now (view_of R.keys R.seats self.new) hands (outs ++ entries_of waiting.new.items)) }
+        ensures left { OnOk result (choices_left papers.now self.new.ranks ≤ choices_left papers.now self.old.ranks) }
+    {
+        if let Some(out) = self.propose(papers, proposer)? {
+            waiting.push_back(out)?;
+        }
+        self.forget_log();
+        Ok(())
+    }
+
+    /// Those who have been put out move on to their next choices and propose, the first first, until fewer than so many wait.
+    fn work_off(
+        &mut self,
+        papers: &FlatPapers,
+        waiting: &mut VecDeque<PutOut>,
+        read: &mut Vec<ClassedChoice>,
+        least: usize,
+    ) -> Result<(), AllocError>
+        requires some { 0 < least }
+        requires wait { (hands : List ℕ) × Waits papers.now (view_of R.keys R.seats self.old) hands
+            (entries_of waiting.old.items) }
+        ensures wait { OnOk result ((hands : List ℕ)
+            → Waits papers.now (view_of R.keys R.seats self.old) hands (entries_of waiting.old.items)
+            → Waits papers.now (view_of R.keys R.seats self.new) hands (entries_of waiting.new.items)) }
+        ensures few { OnOk result (length waiting.new.items < least) }
+    {
+        let mut near = 0;
+        while waiting.len() >= least {
+            if near == 0 {
+                ask_for_put_out(papers, waiting, read)?;
+                near = AHEAD;
+            }
+            near -= 1;
+            let Some(out) = waiting.pop_front() else {
+                unreachable!()
+            };
+            let at = self.note(papers, out)?;
+            self.propose_on(papers, at, waiting)?;
+        }
+        Ok(())
+    }
+
+    /// Everybody proposes, who all wait at their first choices, in this order, and whoever is put out before too many wait.
+    fn settle_together(
+        &mut self,
+        papers: &FlatPapers,
+        applicants: &[Applicant],
+    ) -> Result<(), AllocError>
+        requires within { All (IsWithin papers.now) applicants.now }
+        requires wait { Waits papers.now (view_of R.keys R.seats self.old) (numbers_of papers.now applicants.now) [] }
+        ensures { OnOk result (Waits papers.now (view_of R.keys R.seats self.new) [] []) }
+    {
+        let mut waiting = VecDeque::new(self.alloc);
+        let mut read = Vec::new(self.alloc);
+        for (turn, applicant) in applicants.iter().enumerate() {
+            if turn % AHEAD == 0 {
+                ask_for_applicants(papers, applicants, turn, &mut read)?;
+            }
+            self.propose_on(papers, applicant.position as usize, &mut waiting)?;
+            if waiting.len() >= MOST_WAITING {
+                self.work_off(papers, &mut waiting, &mut read, AHEAD)?;
+            }
+        }
+        self.work_off(papers, &mut waiting, &mut read, 1)?;
+        Ok(())
+    }
+
+    /// Each student of a list, who are all students, enters this round, in which nobody has entered. All go to their first
+    /// choices, and several at a time propose: the order in which students propose changes nothing (McVitie and Wilson 1971).
+    /// The only error is want of memory, after which the round is spent.
+    pub(crate) fn enter_together(
+        &mut self,
+        papers: &FlatPapers,
+        applicants: &[Applicant],
+    ) -> Result<(), AllocError>
+        requires fresh { IsFresh R.keys R.seats papers.now self.old }
+        requires everybody { AreEverybody papers.now applicants.now }
+        ensures entered { OnOk result (HaveEntered papers.now (view_of R.keys R.seats self.new) (students_of papers.now)) }
+        ensures ready { OnOk result (is_spent self.new ≡ false) }
+    {
+        self.spent = true;
+        self.ranks.put_everybody(papers.students_len())?;
+        self.settle_together(papers, applicants)?;
+        self.spent = false;
+        Ok(())
+    }
+}
