@@ -15,7 +15,7 @@ use Rattle.sc_papers.specs.Market.{Market, schools_of}
 use Rattle.sc_papers.specs.Matching.{Matching}
 use Rattle.sc_papers.specs.declared.key.Key.{Key}
 use borrow.Rule.Slice.PartMut.{put_mid, post_of}
-use Rattle.sc_report.specs.Endings.{line_ending, piece_text, HasEndings, HaveEndings}
+use Rattle.sc_report.specs.Endings.{line_ending, piece_text, place_ending, EndsAt, HasEndings, HaveEndings}
 use Rattle.sc_report.specs.Entrants.{Holds}
 use Rattle.sc_report.specs.Reason.{reason_by}
 use Rattle.sc_report.specs.ReasonText.{reason_line, reason_word}
@@ -76,25 +76,28 @@ ending-short s reason low =
     word Lottery = omega arith
 
 -- the endings that are made with the reasons of either class
-pub endings-made : (row : CutoffRow) (last : ℕ) (within beyond : Piece) (first second : Reason) → piece_text within ≡ line_ending row.school first → piece_text beyond ≡ line_ending row.school second
-    → ((key : Key) → (if nat_lt last key.class then second else first) ≡ reason_by row.cutoff key) → HasEndings row (record { last = last; by_class = within ∷ beyond ∷ [] })
-endings-made row last within beyond first second is_within is_beyond reasons key = go (nat_lt last key.class) (reasons key)
+pub endings-made : (row : CutoffRow) (last : ℕ) (place within beyond : Piece) (first second : Reason) → piece_text place ≡ place_ending row.school → piece_text within ≡ line_ending row.school first → piece_text beyond ≡ line_ending row.school second
+    → ((key : Key) → (if nat_lt last key.class then second else first) ≡ reason_by row.cutoff key) → HasEndings row (record { last = last; counts = within.count ∷ beyond.count ∷ []; blocks = within.bytes ∷ beyond.bytes ∷ []; place = place })
+endings-made row last place within beyond first second is_place is_within is_beyond reasons = record { place = is_place; missed = λ key. go key (nat_lt last key.class) (reasons key) }
   where
-    go : (greater : Bool) → (if greater then second else first) ≡ reason_by row.cutoff key → IsSomeAnd (slice_get (within ∷ beyond ∷ []) (if greater then 1 else 0)) (λ piece. piece_text piece ≡ line_ending row.school (reason_by row.cutoff key))
-    go true is = is_beyond ∙ ap (line_ending row.school) is
-    go false is = is_within ∙ ap (line_ending row.school) is
+    go : (key : Key) (greater : Bool) → (if greater then second else first) ≡ reason_by row.cutoff key
+        → EndsAt (record { last = last; counts = within.count ∷ beyond.count ∷ []; blocks = within.bytes ∷ beyond.bytes ∷ []; place = place }) (if greater then 1 else 0) (line_ending row.school (reason_by row.cutoff key))
+    go key true is = is_beyond ∙ ap (line_ending row.school) is
+    go key false is = is_within ∙ ap (line_ending row.school) is
 
 -- the ending that stands at the place of a class
-pub ending-at : (row : CutoffRow) (school : SchoolEndings) (key : Key) (k : ℕ) (default : Piece) → HasEndings row school → k ≡ (if nat_lt school.last key.class then 1 else 0)
-    → piece_text (get_or school.by_class k default) ≡ line_ending row.school (reason_by row.cutoff key)
-ending-at row school key k default has place = go (slice_get school.by_class k) refl (subst (λ n. IsSomeAnd (slice_get school.by_class n) Ends) (sym place) (has key))
+pub ending-at : (row : CutoffRow) (school : SchoolEndings) (key : Key) (k : ℕ) (block : List ℕ) (count : ℕ) → HasEndings row school → k ≡ (if nat_lt school.last key.class then 1 else 0)
+    → take (get_or school.counts k count % 16) (get_or school.blocks k block) ≡ line_ending row.school (reason_by row.cutoff key)
+ending-at row school key k block count has place = go (slice_get school.blocks k) refl (slice_get school.counts k) refl (subst (λ n. EndsAt school n text) (sym place) (has.missed key))
   where
-    Ends : Piece → Type 0
-    Ends piece = piece_text piece ≡ line_ending row.school (reason_by row.cutoff key)
+    text : List ℕ
+    text = line_ending row.school (reason_by row.cutoff key)
 
-    go : (o : Option Piece) → slice_get school.by_class k ≡ o → IsSomeAnd o Ends → Ends (get_or school.by_class k default)
-    go None is ends = elim ends [ ]
-    go (Some piece) is ends = subst Ends (sym (get_or_from_slice_get school.by_class k piece default is)) ends
+    go : (b : Option (List ℕ)) → slice_get school.blocks k ≡ b → (n : Option ℕ) → slice_get school.counts k ≡ n → IsSomeAnd b (λ bytes. IsSomeAnd n (λ m. take (m % 16) bytes ≡ text))
+        → take (get_or school.counts k count % 16) (get_or school.blocks k block) ≡ text
+    go None there n is ends = elim ends [ ]
+    go (Some bytes) there None is ends = elim ends [ ]
+    go (Some bytes) there (Some m) is ends = (λ t. take (get_or_from_slice_get school.counts k m count is t % 16) (get_or_from_slice_get school.blocks k bytes block there t)) ∙ ends
 
 -- the endings of the first rows, and of one more
 pub endings-more : (rows : List CutoffRow) (k : ℕ) (row : CutoffRow) (before new : List SchoolEndings) (made : SchoolEndings) → AllZip HasEndings (take k rows) before → HasEndings row made

@@ -42,16 +42,13 @@ pub lines-flat : {X Y : Type 0} (f : Y → List ℕ) (g : X → List Y) (xs : Li
 lines-flat f g [] = refl
 lines-flat f g (x ∷ xs) = ap (λ more. flat_map f (g x) ++ more) (lines-flat f g xs) ∙ sym (flat_map-append f (g x) (flat_map g xs))
 
-three-parts : (old a c r : List ℕ) → ((old ++ a) ++ c) ++ r ≡ old ++ (a ++ (c ++ r))
-three-parts old a c r = append_assoc (old ++ a) c r ∙ append_assoc old a (c ++ r)
-
--- a text that gained the lines of the students, the cutoffs and the reasons gained the report
-pub report-joined : (m : Market) (a : Matching) (students : List ℕ) (rows : List CutoffRow) (reasons : List ReasonRow) (old first second third : List ℕ)
+-- a text that has the lines of the students, and gained those of the cutoffs and of the reasons, is the report
+pub report-joined : (m : Market) (a : Matching) (students : List ℕ) (rows : List CutoffRow) (reasons : List ReasonRow) (first second third : List ℕ)
     → students ≡ rising (students_of m) → rows ≡ cutoff_rows m a → reasons ≡ reason_rows m a
-    → first ≡ old ++ assignment_lines a students → second ≡ first ++ cutoff_lines rows → third ≡ second ++ reason_lines reasons
-    → third ≡ old ++ report_text m a
+    → first ≡ assignment_lines a students → second ≡ first ++ cutoff_lines rows → third ≡ second ++ reason_lines reasons
+    → third ≡ report_text m a
 unfolding report_text
-report-joined m a students rows reasons old first second third students_is rows_is reasons_is first_is second_is third_is =
+report-joined m a students rows reasons first second third students_is rows_is reasons_is first_is second_is third_is =
     third_is
-    ∙ (λ t. (second_is ∙ (λ u. (first_is ∙ (λ v. old ++ assignment_lines a (students_is v))) u ++ cutoff_lines (rows_is u))) t ++ reason_lines (reasons_is t))
-    ∙ three-parts old (assignment_text m a) (cutoff_text m a) (reason_text m a)
+    ∙ (λ t. (second_is ∙ (λ u. (first_is ∙ (λ v. assignment_lines a (students_is v))) u ++ cutoff_lines (rows_is u))) t ++ reason_lines (reasons_is t))
+    ∙ append_assoc (assignment_text m a) (cutoff_text m a) (reason_text m a)

@@ -1,4 +1,4 @@
--- How the reasons' lines end, each ending written once.
+-- How the lines about a school end, each ending written once.
 use Rattle.std.specs.Prelude.{◌≡◌, ℕ, ◌%◌, nat_lt, List, ◌++◌, codes, slice_get, take, if◌then◌else◌}
 use Rattle.std.specs.Option.{IsSomeAnd}
 use Rattle.std.specs.Fmt.{decimal}
@@ -16,13 +16,22 @@ use Rattle.sc_report.specs.declared.reason.Reason.{Reason}
 abbrev pub piece_text : Piece → List ℕ
 piece_text piece = take (piece.count % 16) piece.bytes
 
+-- how the line of a student who has a school ends, after the student's number and a comma
+abbrev pub place_ending : ℕ → List ℕ
+place_ending s = decimal s ++ codes "\n"
+
 -- how the line of a school and a reason ends, after the student's number and a comma
 abbrev pub line_ending : ℕ → Reason → List ℕ
 line_ending s reason = decimal s ++ codes "," ++ reason_word reason ++ codes "\n"
 
--- these are the endings of the lines about the school of a row, by the student's key there
-abbrev pub HasEndings : CutoffRow → SchoolEndings → Type 0
-HasEndings row school = (key : Key) → IsSomeAnd (slice_get school.by_class (if nat_lt school.last key.class then 1 else 0)) (λ piece. piece_text piece ≡ line_ending row.school (reason_by row.cutoff key))
+-- the ending at a place among those of who misses a school
+abbrev pub EndsAt : SchoolEndings → ℕ → List ℕ → Type 0
+EndsAt school k text = IsSomeAnd (slice_get school.blocks k) (λ block. IsSomeAnd (slice_get school.counts k) (λ count. take (count % 16) block ≡ text))
+
+-- these are the endings of the lines about the school of a row: of who has it, and of who misses it, by their key there
+pub record HasEndings (row : CutoffRow) (school : SchoolEndings) : Type 0 where
+  pub place : piece_text school.place ≡ place_ending row.school
+  pub missed : (key : Key) → EndsAt school (if nat_lt school.last key.class then 1 else 0) (line_ending row.school (reason_by row.cutoff key))
 
 -- and of each of the rows
 abbrev pub HaveEndings : List CutoffRow → Endings → Type 0

@@ -1,7 +1,7 @@
-//! How the reasons' lines end: each ending is written once, however many lines have it.
+//! How the lines about a school end: each ending is written once, however many lines have it.
 ghost use Rattle.std.specs.Prelude.{◌≡◌, ◌<◌, nat_lt, length, slice_get, if◌then◌else◌, List, Some, IfOk};
 ghost use Rattle.sc_papers.specs.declared.key.Key.{Key};
-ghost use Rattle.sc_report.specs.Endings.{line_ending, piece_text, HasEndings, HaveEndings};
+ghost use Rattle.sc_report.specs.Endings.{line_ending, piece_text, place_ending, HasEndings, HaveEndings};
 ghost use Rattle.sc_report.specs.Reason.{reason_by};
 ghost use Rattle.sc_report.specs.declared.cutoff.CutoffRow.{CutoffRow};
 
@@ -13,12 +13,17 @@ use sc_decimal::push_number;
 use sc_papers::SchoolNo;
 use std::alloc::{AllocError, Global};
 
-/// How the lines about a school end, after the student's number and the comma, by the student's class there.
+/// How the lines about a school end, after the student's number and the comma.
 #[derive(Clone, Copy)]
 struct SchoolEndings {
     last: u8,
-    /// Where the class is at most the last one, and where it is greater.
-    by_class: [Piece; 2],
+    /// How many bytes the endings have of who misses it, and their blocks, as in a piece: where their class there is at most
+    /// the last one, and where it is greater. Blocks alone have a power of two as their size, and then the compiler finds
+    /// the one of a class without a branch.
+    counts: [u8; 2],
+    blocks: [[u8; 16]; 2],
+    /// The ending of who has it.
+    place: Piece,
 }
 
 /// For each school how the lines about it end.
@@ -55,9 +60,13 @@ fn endings_of(text: &mut Vec<u8>, row: &CutoffRow) -> Result<SchoolEndings, Allo
     let (last, within, beyond) = reasons_by_class(row.cutoff);
     let within = ending_of(text, row.school, within)?;
     let beyond = ending_of(text, row.school, beyond)?;
+    let block_within = within.bytes;
+    let block_beyond = beyond.bytes;
     Ok(SchoolEndings {
         last,
-        by_class: [within, beyond],
+        counts: [within.count, beyond.count],
+        blocks: [block_within, block_beyond],
+        place: Piece::number_then(row.school.get(), b'\n'),
     })
 }
 
@@ -75,8 +84,17 @@ impl Endings {
         Ok(Endings { schools })
     }
 
-    /// How a line ends about the school at a position and a student who has this class there. In constant time: no branch is
-    /// taken on the class, since nobody can guess it.
+    /// How the line ends of a student who has the school at a position.
+    pub(crate) fn place(&self, position: usize) -> Piece
+        requires { position < length self.now.schools.items }
+        ensures { (rows : List CutoffRow) (row : CutoffRow) → HaveEndings rows self.now
+            → slice_get rows position ≡ Some row → piece_text result ≡ place_ending row.school }
+    {
+        self.schools[position].place
+    }
+
+    /// How a line ends about the school at a position and a student who misses it and has this class there. In constant
+    /// time: no branch is taken on the class, since nobody can guess it.
     pub(crate) fn ending(&self, position: usize, class: u8) -> Piece
         requires { position < length self.now.schools.items }
         ensures { (rows : List CutoffRow) (row : CutoffRow) (key : Key) → HaveEndings rows self.now
@@ -85,6 +103,9 @@ impl Endings {
     {
         let school = &self.schools[position];
         let place = if school.last < class { 1 } else { 0 };
-        school.by_class[place]
+        Piece {
+            bytes: school.blocks[place],
+            count: school.counts[place],
+        }
     }
 }

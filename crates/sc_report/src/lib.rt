@@ -18,6 +18,7 @@ mod reason;
 mod reason_lines;
 mod reply;
 mod report;
+mod student_texts;
 mod table;
 mod text;
 mod watched;

@@ -27,8 +27,6 @@ const ROOM: usize = 245_760;
 /// A text that grows, on pages.
 #[derive(Drop)]
 pub(crate) struct Pages {
-    /// How many bytes fill a page.
-    most: usize,
     /// The pages that are full, in order.
     full: Vec<Vec<u8>>,
     /// The page that lines are added to.
@@ -36,33 +34,23 @@ pub(crate) struct Pages {
 }
 
 impl Pages {
-    /// No text yet. The first page grows with its text, so that a short text takes little room.
-    pub(crate) fn new(alloc: Global) -> Pages
-        ensures { text_so_far result ≡ [] }
+    /// A text that begins with this header. The first page grows with its text, so that a short text takes little room.
+    pub(crate) fn begin(alloc: Global, header: &[u8]) -> Result<Pages, AllocError>
+        ensures { IfOk result (λ pages. text_so_far pages ≡ header.now) }
     {
-        Pages {
-            most: FULL,
+        let mut last = Vec::with_capacity(alloc, DRAFT)?;
+        last.extend_from_slice(header)?;
+        Ok(Pages {
             full: Vec::new(alloc),
-            last: Vec::new(alloc),
-        }
-    }
-
-    /// No text yet, and one page alone, however long the text becomes: for who asks for the text in one block.
-    pub(crate) fn whole(alloc: Global) -> Pages
-        ensures { text_so_far result ≡ [] }
-    {
-        Pages {
-            most: usize::MAX,
-            full: Vec::new(alloc),
-            last: Vec::new(alloc),
-        }
+            last,
+        })
     }
 
     /// Begins a page if the last one is full.
     pub(crate) fn turn(&mut self, alloc: Global) -> Result<(), AllocError>
         ensures { OnOk result (text_so_far self.new ≡ text_so_far self.old) }
     {
-        if self.last.len() < self.most {
+        if self.last.len() < FULL {
             return Ok(());
         }
         let next = Vec::with_capacity(alloc, ROOM)?;
@@ -92,11 +80,20 @@ impl Pages {
         Ok(0)
     }
 
+    /// Puts another text behind this one. Its pages stay as they are.
+    pub(crate) fn append(&mut self, other: Pages) -> Result<(), AllocError>
+        ensures { OnOk result (text_so_far self.new ≡ text_so_far self.old ++ text_so_far other) }
+    {
+        let Pages { mut full, last } = other;
+        self.full.push(mem::replace(&mut self.last, last))?;
+        self.full.append(&mut full)
+    }
+
     /// All pages, in order.
     pub(crate) fn finish(self) -> Result<Vec<Vec<u8>>, AllocError>
         ensures { IfOk result (λ pages. pages_text pages.items ≡ text_so_far self) }
     {
-        let Pages { mut full, last, .. } = self;
+        let Pages { mut full, last } = self;
         full.push(last)?;
         Ok(full)
     }

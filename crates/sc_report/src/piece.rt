@@ -10,9 +10,9 @@ const DIGITS: usize = 15;
 /// A text of fewer than 16 bytes, and bytes of no meaning after it.
 #[derive(Clone, Copy)]
 pub(crate) struct Piece {
-    bytes: [u8; 16],
+    pub(crate) bytes: [u8; 16],
     /// How many bytes the text has.
-    count: u8,
+    pub(crate) count: u8,
 }
 
 impl Piece {
@@ -58,6 +58,9 @@ impl Piece {
 }
 
 /// Writes a line over some bytes, and tells where it ends there.
+///
+/// It is taken into the loops that ask for it, so that the pieces stay in registers.
+#[inline(always)]
 pub(crate) fn put_line(over: &mut [u8], at: usize, number: Piece, ending: Piece) -> usize
     requires { at + 32 ≤ length over.old }
     ensures text { take result over.new ≡ take at over.old ++ (piece_text number ++ piece_text ending) }

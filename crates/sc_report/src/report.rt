@@ -8,8 +8,8 @@ ghost use Rattle.sc_tallies.specs.Places.{ArePlaces};
 ghost use Rattle.sc_tallies.specs.Tally.{AreTallies, IsForEachSchool};
 
 use crate::matched::Matched;
-use crate::pages::{Pages, write_pages};
-use crate::text::fill_report;
+use crate::pages::write_pages;
+use crate::text::report_pages;
 use crate::watched::{DeviceFailed, Watched};
 use sc_papers::FlatPapers;
 use sc_repair::Clearing;
@@ -63,7 +63,7 @@ pub fn write_report_of<W: Write>(
         (W.contents (device_of to.old)) (W.contents (device_of to.new)) result }
     ensures failed { has_failed to.new ≡ (has_failed to.old || is_write_fault result) }
 {
-    let pages = fill_report(Pages::new(alloc), alloc, matched)?.finish()?;
+    let pages = report_pages(alloc, matched)?.finish()?;
     write_pages(to, pages.as_slice())?;
     Ok(())
 }

@@ -1,4 +1,4 @@
-use Rattle.std.proofs.Common.{◌≡◌, ◌++◌, refl, Some, ap, arith, codes, decimal, slice_get, sym, take, ◌∙◌}
+use Rattle.std.proofs.Common.{◌≡◌, ◌++◌, refl, Some, ap, arith, slice_get, sym, take, ◌∙◌}
 use Rattle.std.specs.Option.{option_map}
 use Rattle.std.specs.Prelude.{flat_map}
 use Rattle.std.proofs.lemmas.List.{take_all}
@@ -14,7 +14,7 @@ use Rattle.sc_report.specs.ReasonText.{reason_line}
 use Rattle.sc_report.proofs.EndingLemmas.{line-joined}
 use Rattle.sc_report.proofs.LineLemmas.{lines-more}
 use Rattle.sc_report.proofs.ReasonLemmas.{missed-few, missed-long, missed-there, missed-within}
-use Rattle.sc_report.proofs.reason_lines.put_reasons.Goals as goal
+use Rattle.sc_report.proofs.student_texts.put_reasons.Goals as goal
 
 pub ending-ending-requires : goal.ending-ending-requires
 ending-ending-requires c =
@@ -49,7 +49,7 @@ loop-choice-preserved c =
           let row = reason_row m a i s in
           let there : slice_get (rows_in_order m a) one.position ≡ Some (cutoff_row m a s) = slice_get-map (cutoff_row m a) (schools_of m) one.position ∙ ap (option_map (cutoff_row m a)) (position-there (schools_of m) s one.position got.place) in
           let ending = c.ending-ending.ensures (rows_in_order m a) (cutoff_row m a s) (key_of m i s) have (ap (slice_get (rows_in_order m a)) c.position.ensures ∙ there) (got.class ∙ sym c.class.ensures) in
-          let line = line-joined row (piece_text c.number_then-number.result) (piece_text c.ending-ending.result) (take c.loop-choice.end c.loop-choice.over) (take c.put_line-end.result c.put_line-end.new.over) (c.number_then-number.ensures ∙ ap (λ n. decimal n ++ codes ",") c.get.ensures.value) ending c.put_line-end.ensures.text in
+          let line = line-joined row (piece_text c.args.number) (piece_text c.ending-ending.result) (take c.loop-choice.end c.loop-choice.over) (take c.put_line-end.result c.put_line-end.new.over) c.requires.number ending c.put_line-end.ensures.text in
           lines-more reason_line rows k row (take c.args.at c.args.over.now) (take c.loop-choice.end c.loop-choice.over) (take c.put_line-end.result c.put_line-end.new.over) (c.loop-choice.invariant.text a have holds) line
           (slice_get_within rows k row got.row) (sym (get_or_from_slice_get rows k row row got.row));
       room = c.put_line-end.ensures.room ∙ c.loop-choice.invariant.room;

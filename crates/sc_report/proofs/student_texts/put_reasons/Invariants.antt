@@ -6,7 +6,7 @@ use Rattle.sc_report.specs.Endings.{HaveEndings}
 use Rattle.sc_report.specs.Entrants.{Holds}
 use Rattle.sc_report.specs.Reason.{reasons_of}
 use Rattle.sc_report.specs.ReasonText.{reason_line}
-use Rattle.sc_report.proofs.reason_lines.put_reasons.Given as goal
+use Rattle.sc_report.proofs.student_texts.put_reasons.Given as goal
 
 abbrev pub invariant-loop-choice : goal.invariant-loop-choice
 invariant-loop-choice l = record {
