@@ -1,11 +1,15 @@
 //! Short pieces of text, each in a block of constant size, so that none is copied by a call.
 ghost use Rattle.std.specs.Prelude.{◌≡◌, ◌<◌, ◌≤◌, ◌+◌, ◌++◌, ◌∷◌, [], decimal, length, take};
 ghost use Rattle.sc_report.specs.Endings.{piece_text};
+ghost use Rattle.sc_report.specs.declared.piece.TheConstants.{LINE};
 
 use itoa::write_digits;
 
 /// Where the digits of a number end as it is written: there is room for each number before, and for a block after.
 const DIGITS: usize = 15;
+
+/// The room of a line, of two blocks.
+pub(crate) const LINE: usize = 32;
 
 /// A text of fewer than 16 bytes, and bytes of no meaning after it.
 #[derive(Clone, Copy)]
@@ -62,13 +66,13 @@ impl Piece {
 /// It is taken into the loops that ask for it, so that the pieces stay in registers.
 #[inline(always)]
 pub(crate) fn put_line(over: &mut [u8], at: usize, number: Piece, ending: Piece) -> usize
-    requires { at + 32 ≤ length over.old }
+    requires { at + LINE ≤ length over.old }
     ensures text { take result over.new ≡ take at over.old ++ (piece_text number ++ piece_text ending) }
     ensures room { length over.new ≡ length over.old }
-    ensures end { result ≤ at + 32 }
+    ensures end { result ≤ at + LINE }
 {
     // Both blocks are within these bytes, as the compiler sees.
-    let line = &mut over[at..at + 32];
+    let line = &mut over[at..at + LINE];
     let count = number.put(line, 0);
     at + ending.put(line, count)
 }

@@ -34,6 +34,6 @@ pub fn reason_text(alloc: Global, clearing: &Clearing) -> Result<Vec<u8>, AllocE
     let places = places_of(alloc, papers, clearing.places())?;
     let entrants = rising_entrants(alloc, papers, places.as_slice())?;
     let rows = rows_in_order(alloc, papers, places.as_slice())?;
-    let texts = student_texts(alloc, entrants.as_slice(), rows.as_slice(), papers)?;
+    let texts = student_texts(alloc, entrants.as_slice(), rows.as_slice(), papers, true)?;
     texts.reasons.into_text(alloc)
 }

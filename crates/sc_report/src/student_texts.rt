@@ -1,5 +1,5 @@
 //! The texts with lines of each student: the assignment text and the reason text.
-ghost use Rattle.std.specs.Prelude.{◌≡◌, ◌+◌, ◌≤◌, ◌++◌, codes, decimal, flat_map, length, map, take, All, IfOk};
+ghost use Rattle.std.specs.Prelude.{◌≡◌, ◌+◌, ◌≤◌, ◌++◌, codes, decimal, flat_map, length, map, take, true, All, IfOk};
 ghost use Rattle.sc_papers.specs.Market.{schools_of};
 ghost use Rattle.sc_papers.specs.Matching.{Matching};
 ghost use Rattle.sc_report.specs.Cutoff.{rows_in_order};
@@ -10,6 +10,7 @@ ghost use Rattle.sc_report.specs.Reason.{reasons_of};
 ghost use Rattle.sc_report.specs.ReasonText.{reason_line, reason_lines};
 ghost use Rattle.sc_report.specs.Text.{assignment_line, assignment_lines};
 ghost use Rattle.sc_report.specs.declared.pages.TheConstants.{LINES};
+ghost use Rattle.sc_report.specs.declared.piece.TheConstants.{LINE};
 
 use crate::cutoff::CutoffRow;
 use crate::endings::Endings;
@@ -26,7 +27,7 @@ const ASSIGNMENT_HEADER: &[u8; 15] = b"student,school\n";
 /// The line above the reasons' lines.
 const REASON_HEADER: &[u8; 22] = b"student,school,reason\n";
 
-/// The assignment text and the reason text.
+/// The assignment text and the reason text, which is no more than a header where it was not asked for.
 #[derive(Drop)]
 pub(crate) struct StudentTexts {
     pub(crate) assignment: Pages,
@@ -50,7 +51,7 @@ fn put_school(
     ensures text { (a : Matching) → HaveEndings (rows_in_order papers.now a) endings.now
         → take result over.new ≡ take at over.old ++ (piece_text number ++ place_ending school) }
     ensures room { length over.new ≡ length over.old }
-    ensures end { result ≤ at + 32 }
+    ensures end { result ≤ at + LINE }
 {
     match papers.school_position(school) {
         Some(position) => put_line(over, at, number, endings.place(position)),
@@ -76,7 +77,7 @@ fn put_place(
     ensures text { (a : Matching) → HaveEndings (rows_in_order papers.now a) endings.now → Holds a entrant.now
         → take result over.new ≡ take at over.old ++ assignment_line a entrant.now.student }
     ensures room { length over.new ≡ length over.old }
-    ensures end { result ≤ at + 32 }
+    ensures end { result ≤ at + LINE }
 {
     match entrant.held {
         Some(school) => put_school(over, at, number, school, endings, papers),
@@ -116,14 +117,15 @@ fn put_reasons(
     end
 }
 
-/// The assignment text and the reason text, by the students in the order in which they are told of, and the rows of all
-/// schools in order of entry. Both are made in one pass, and a student's number and the endings of a school's lines are
-/// written once, however many lines have them. The only error is want of memory.
+/// The assignment text, and the reason text if it is asked for, by the students in the order in which they are told of, and
+/// the rows of all schools in order of entry. Both are made in one pass, and a student's number and the endings of a
+/// school's lines are written once, however many lines have them. The only error is want of memory.
 pub(crate) fn student_texts(
     alloc: Global,
     entrants: &[Entrant],
     rows: &[CutoffRow],
     papers: &FlatPapers,
+    with_reasons: bool,
 ) -> Result<StudentTexts, AllocError>
     requires schools { map (λ row. row.school) rows.now ≡ schools_of papers.now }
     requires stand { All (StandsAt papers.now) entrants.now }
@@ -131,8 +133,8 @@ pub(crate) fn student_texts(
     ensures assignment { IfOk result (λ texts. (a : Matching) → rows.now ≡ rows_in_order papers.now a
         → All (Holds a) entrants.now
         → text_so_far texts.assignment ≡ assignment_lines a (numbers_of entrants.now)) }
-    ensures reasons { IfOk result (λ texts. (a : Matching) → rows.now ≡ rows_in_order papers.now a
-        → All (Holds a) entrants.now
+    ensures reasons { IfOk result (λ texts. with_reasons ≡ true
+        → (a : Matching) → rows.now ≡ rows_in_order papers.now a → All (Holds a) entrants.now
         → text_so_far texts.reasons ≡ reason_lines (flat_map (reasons_of papers.now a) (numbers_of entrants.now))) }
 {
     let endings = Endings::new(alloc, rows)?;
@@ -146,8 +148,10 @@ pub(crate) fn student_texts(
         let number = Piece::number_then(entrant.student.get(), b',');
         let end = put_place(&mut placed, placed_end, number, entrant, &endings, papers);
         placed_end = assignment.add_full(alloc, &placed, end)?;
-        let end = put_reasons(&mut told, told_end, number, entrant, &endings, papers);
-        told_end = reasons.add_full(alloc, &told, end)?;
+        if with_reasons {
+            let end = put_reasons(&mut told, told_end, number, entrant, &endings, papers);
+            told_end = reasons.add_full(alloc, &told, end)?;
+        }
     }
     assignment.last.extend_from_slice(&placed[..placed_end])?;
     reasons.last.extend_from_slice(&told[..told_end])?;

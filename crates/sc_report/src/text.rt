@@ -21,8 +21,8 @@ use sc_tallies::places_of;
 use std::alloc::{AllocError, Global};
 
 /// The assignment text: a header, and for each student by rising number a line with the school that
-/// the student has, or a dash. The only error is want of memory. The cost is that of `report_text`,
-/// since the same pass makes the lines of the reasons.
+/// the student has, or a dash. The only error is want of memory. The cost is that of `report_text`
+/// without the lines of the reasons.
 pub fn assignment_text(alloc: Global, clearing: &Clearing) -> Result<Vec<u8>, AllocError>
     ensures { IfOk result (λ text. text.items
         ≡ assignment_text clearing.now.standing.papers (matching_of clearing.now.standing)) }
@@ -31,7 +31,7 @@ pub fn assignment_text(alloc: Global, clearing: &Clearing) -> Result<Vec<u8>, Al
     let places = places_of(alloc, papers, clearing.places())?;
     let entrants = rising_entrants(alloc, papers, places.as_slice())?;
     let rows = rows_in_order(alloc, papers, places.as_slice())?;
-    let texts = student_texts(alloc, entrants.as_slice(), rows.as_slice(), papers)?;
+    let texts = student_texts(alloc, entrants.as_slice(), rows.as_slice(), papers, false)?;
     texts.assignment.into_text(alloc)
 }
 
@@ -59,7 +59,7 @@ pub(crate) fn report_pages(alloc: Global, matched: Matched<'_>) -> Result<Pages,
     let entrants = rising_entrants(alloc, papers, matched.places.as_slice())?;
     // What a student has stands with them now, and the pages may take the memory.
     drop(matched);
-    let texts = student_texts(alloc, entrants.as_slice(), rows.as_slice(), papers)?;
+    let texts = student_texts(alloc, entrants.as_slice(), rows.as_slice(), papers, true)?;
     let mut pages = texts.assignment;
     push_cutoff_text(&mut pages, alloc, rows.as_slice())?;
     pages.append(texts.reasons)?;

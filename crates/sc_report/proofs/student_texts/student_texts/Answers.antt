@@ -1,5 +1,6 @@
 use Rattle.std.proofs.Common.{ap, arith, codes, decimal, subst, sym, take, ◌∙◌, ◌++◌}
 use Rattle.std.specs.Prelude.{flat_map}
+use Rattle.std.proofs.lemmas.Bool.{false≢true}
 use Rattle.std.proofs.lemmas.List.{take_all}
 use Rattle.sc_report.specs.Endings.{HaveEndings}
 use Rattle.sc_report.specs.Entrants.{Holds}
@@ -12,6 +13,7 @@ use Rattle.sc_report.proofs.EndingLemmas.{endings-long}
 use Rattle.sc_report.proofs.LineLemmas.{lines-flat, lines-map, lines-more}
 use Rattle.sc_report.proofs.PageLemmas.{draft-grew, page-grew}
 use Rattle.sc_report.proofs.student_texts.student_texts.Goals as goal
+use Rattle.sc_report.proofs.student_texts.student_texts.Goals.{then-with_reasons+in_ok-told_end, else-with_reasons}
 
 pub put_place-end-requires-clause-endings : goal.put_place-end-requires-clause-endings
 put_place-end-requires-clause-endings c = endings-long c.args.papers.now c.args.rows.now c.in_ok-endings.endings c.in_ok-endings.ensures c.requires.schools
@@ -34,7 +36,7 @@ loop-entrant-preserved c = record {
       let before = take c.loop-entrant.placed_end c.loop-entrant.placed in
       let grew = draft-grew (text_so_far pages) before (lines one) _ _ (c.put_place-end.ensures.text a have holds) c.in_ok-placed_end.ensures.text in
       lines-more lines c.args.entrants.now k one (codes "student,school\n") (text_so_far pages ++ before) _ (c.loop-entrant.invariant.assignment a are hold) grew c.loop-entrant-test.true c.entrant-item.is;
-  reasons = λ a are hold.
+  reasons = λ wanted a are hold.
       let k = c.loop-entrant.entrant-index in
       let one = c.entrant-item.result in
       let holds : Holds a one = subst (Holds a) (sym c.entrant-item.is) (hold k one c.loop-entrant-test.true) in
@@ -42,12 +44,25 @@ loop-entrant-preserved c = record {
       let pages = c.loop-entrant.reasons in
       let lines = λ (e : Entrant). flat_map reason_line (reasons_of c.args.papers.now a e.student) in
       let before = take c.loop-entrant.told_end c.loop-entrant.told in
-      let grew = draft-grew (text_so_far pages) before (lines one) _ _ (c.put_reasons-end.ensures.text a have holds) c.in_ok-told_end.ensures.text in
-      lines-more lines c.args.entrants.now k one (codes "student,school,reason\n") (text_so_far pages ++ before) _ (c.loop-entrant.invariant.reasons a are hold) grew c.loop-entrant-test.true c.entrant-item.is;
+      elim c.if-with_reasons.branch [
+        | then-with_reasons+in_ok-told_end w ↦
+            let grew = draft-grew (text_so_far pages) before (lines one) _ _ (w.put_reasons-end.ensures.text a have holds) w.in_ok-told_end.ensures.text in
+            rw (w.reasons-is, w.told_end-is, w.told-is)
+            (lines-more lines c.args.entrants.now k one (codes "student,school,reason\n") (text_so_far pages ++ before) _ (c.loop-entrant.invariant.reasons wanted a are hold) grew c.loop-entrant-test.true c.entrant-item.is)
+        | else-with_reasons w ↦ absurd (false≢true (sym w.if-with_reasons.false ∙ wanted))
+      ];
   placed_room = c.put_place-end.ensures.room ∙ c.loop-entrant.invariant.placed_room;
-  told_room = c.put_reasons-end.ensures.room ∙ c.loop-entrant.invariant.told_room;
+  told_room =
+      elim c.if-with_reasons.branch [
+        | then-with_reasons+in_ok-told_end w ↦ rw w.told-is (w.put_reasons-end.ensures.room ∙ c.loop-entrant.invariant.told_room)
+        | else-with_reasons w ↦ rw w.told-is c.loop-entrant.invariant.told_room
+      ];
   placed_low = omega (arith, c.in_ok-placed_end.ensures.room, c.put_place-end.ensures.room, c.loop-entrant.invariant.placed_room);
-  told_low = omega (arith, c.in_ok-told_end.ensures.room, c.put_reasons-end.ensures.room, c.loop-entrant.invariant.told_room);
+  told_low =
+      elim c.if-with_reasons.branch [
+        | then-with_reasons+in_ok-told_end w ↦ omega (arith, w.told_end-is, w.in_ok-told_end.ensures.room, w.put_reasons-end.ensures.room, c.loop-entrant.invariant.told_room)
+        | else-with_reasons w ↦ omega (arith, w.told_end-is, c.loop-entrant.invariant.told_low)
+      ];
 }
 
 pub returns-clause-assignment : goal.returns-clause-assignment
@@ -61,12 +76,12 @@ returns-clause-assignment c a are hold =
     ∙ ap (λ more. header ++ more) (lines-map line (λ (e : Entrant). e.student) c.args.entrants.now)
 
 pub returns-clause-reasons : goal.returns-clause-reasons
-returns-clause-reasons c a are hold =
+returns-clause-reasons c wanted a are hold =
     let rows = reasons_of c.args.papers.now a in
     let filled = c.loop-entrant.reasons in
     let header = codes "student,school,reason\n" in
     page-grew filled.full.items filled.last.items c.extend_from_slice-2.new.self.items (take c.loop-entrant.told_end c.loop-entrant.told) c.in_ok-extend_from_slice-2.ensures.items
-    ∙ c.loop-entrant.invariant.reasons a are hold
+    ∙ c.loop-entrant.invariant.reasons wanted a are hold
     ∙ ap (λ es. header ++ flat_map (λ (e : Entrant). flat_map reason_line (rows e.student)) es) (take_all c.loop-entrant.entrant-index c.args.entrants.now c.loop-entrant-test.false)
     ∙ ap (λ more. header ++ more)
     (lines-flat reason_line (λ (e : Entrant). rows e.student) c.args.entrants.now ∙ ap (flat_map reason_line) (lines-map rows (λ (e : Entrant). e.student) c.args.entrants.now))

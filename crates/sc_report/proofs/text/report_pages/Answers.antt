@@ -22,4 +22,4 @@ returns c a are counted =
     report-joined m a students (cutoff_rows m a) (flat_map (reasons_of m a) students) first second (text_so_far c.append.new.self)
     numbers refl (ap (flat_map (reasons_of m a)) numbers)
     (c.in_ok-texts.ensures.assignment a made hold) (c.in_ok-push_cutoff_text.ensures m a (c.as_slice-5.ensures.value ∙ rows))
-    (c.in_ok-append.ensures ∙ ap (λ more. second ++ more) (c.in_ok-texts.ensures.reasons a made hold))
+    (c.in_ok-append.ensures ∙ ap (λ more. second ++ more) (c.in_ok-texts.ensures.reasons refl a made hold))
