@@ -1,5 +1,5 @@
 -- The text that stands on pages.
-use Rattle.std.specs.Prelude.{ℕ, List, ◌++◌, flat_map, vec_items, Vec}
+use Rattle.std.specs.Prelude.{◌≡◌, ℕ, List, ◌++◌, flat_map, length, vec_items, Vec}
 use Rattle.std.specs.declared.alloc.Global.{Global}
 use Rattle.sc_report.specs.declared.pages.Pages.{Pages}
 
@@ -10,3 +10,7 @@ pages_text pages = flat_map vec_items pages
 -- the text that was put on pages so far
 abbrev pub text_so_far : Pages → List ℕ
 text_so_far pages = pages_text pages.full.items ++ pages.last.items
+
+-- there are as many bytes afterwards as there were before
+abbrev pub IsAsLong : List ℕ → List ℕ → Type 0
+IsAsLong old new = length new ≡ length old

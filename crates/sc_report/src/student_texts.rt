@@ -5,7 +5,7 @@ ghost use Rattle.sc_papers.specs.Matching.{Matching};
 ghost use Rattle.sc_report.specs.Cutoff.{rows_in_order};
 ghost use Rattle.sc_report.specs.Endings.{piece_text, place_ending, HaveEndings};
 ghost use Rattle.sc_report.specs.Entrants.{numbers_of, Holds, StandsAt};
-ghost use Rattle.sc_report.specs.Pages.{text_so_far};
+ghost use Rattle.sc_report.specs.Pages.{text_so_far, IsAsLong};
 ghost use Rattle.sc_report.specs.Reason.{reasons_of};
 ghost use Rattle.sc_report.specs.ReasonText.{reason_line, reason_lines};
 ghost use Rattle.sc_report.specs.Text.{assignment_line, assignment_lines};
@@ -50,7 +50,7 @@ fn put_school(
     // By whichever matching the endings were made.
     ensures text { (a : Matching) → HaveEndings (rows_in_order papers.now a) endings.now
         → take result over.new ≡ take at over.old ++ (piece_text number ++ place_ending school) }
-    ensures room { length over.new ≡ length over.old }
+    ensures room { IsAsLong over.old over.new }
     ensures end { result ≤ at + LINE }
 {
     match papers.school_position(school) {
@@ -76,7 +76,7 @@ fn put_place(
     // By whichever matching the endings were made.
     ensures text { (a : Matching) → HaveEndings (rows_in_order papers.now a) endings.now → Holds a entrant.now
         → take result over.new ≡ take at over.old ++ assignment_line a entrant.now.student }
-    ensures room { length over.new ≡ length over.old }
+    ensures room { IsAsLong over.old over.new }
     ensures end { result ≤ at + LINE }
 {
     match entrant.held {
@@ -103,7 +103,7 @@ fn put_reasons(
     ensures text { (a : Matching) → HaveEndings (rows_in_order papers.now a) endings.now → Holds a entrant.now
         → take result over.new
         ≡ take at over.old ++ flat_map reason_line (reasons_of papers.now a entrant.now.student) }
-    ensures room { length over.new ≡ length over.old }
+    ensures room { IsAsLong over.old over.new }
     ensures end { result ≤ at + LINES }
 {
     // This call tells that the papers are within their limits.

@@ -165,7 +165,8 @@ impl<R: Roll> Round<R> {
     ) -> Result<(), AllocError>
         requires fresh { IsFresh R.keys R.seats papers.now self.old }
         requires everybody { AreEverybody papers.now applicants.now }
-        ensures entered { OnOk result (HaveEntered papers.now (view_of R.keys R.seats self.new) (students_of papers.now)) }
+        ensures entered { OnOk result (HaveEntered papers.now (view_of R.keys R.seats self.new)
+            (students_of papers.now)) }
         ensures ready { OnOk result (is_spent self.new ≡ false) }
     {
         self.spent = true;
