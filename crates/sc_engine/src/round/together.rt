@@ -1,6 +1,6 @@
 //! Rounds that everybody enters at once, several proposing one after the other.
 
-ghost use Rattle.std.specs.Prelude.{◌≡◌, ℕ, ◌+◌, ◌<◌, ◌≤◌, ◌∷◌, ◌++◌, [], false, All, List, length, map, OnErr, OnOk};
+ghost use Rattle.std.specs.Prelude.{◌≡◌, ℕ, ◌<◌, ◌≤◌, ◌∷◌, ◌++◌, [], false, All, List, length, OnOk};
 ghost use Rattle.sc_papers.specs.Market.{student_at, students_of};
 ghost use Rattle.sc_papers.specs.declared.rejection.Rejection.{Rejection as Entry};
 ghost use Rattle.sc_engine.specs.Applicants.{numbers_of, AreEverybody, IsWithin};
@@ -169,6 +169,7 @@ impl<R: Roll> Round<R> {
             (students_of papers.now)) }
         ensures ready { OnOk result (is_spent self.new ≡ false) }
     {
+        // A refused growth leaves it so.
         self.spent = true;
         self.ranks.put_everybody(papers.students_len())?;
         self.settle_together(papers, applicants)?;
