@@ -1,8 +1,5 @@
-mod Joining
-mod Bits
 pub mod Marking
-mod Finding
-mod Passing
+mod Bits
 pub mod Rising
 pub mod Replacing
 pub mod Spanned

@@ -1,21 +1,120 @@
--- One more entry of a log, put into a table of ranks.
-use Rattle.std.proofs.Common.{◌≡◌, inl, inr, refl, ap, sym, ◌∙◌, ℕ, ◌<◌, ◌==◌, nat_eq, nat_lt, Bool, false, ◌&&◌, ◌||◌, List, [], ◌∷◌, ◌++◌, length, get_or, set, Some, None, slice_get, position, arith}
+-- Segments at positions of the order of entry: their log, where their students stand, and a table of ranks by their entries.
+use Rattle.std.proofs.Common.{◌≡◌, ap, sym, ◌∙◌, ℕ, ◌+◌, List, [], ◌∷◌, ◌++◌, length, min, Some, take, slice_get, append-nil, arith, zero, suc, ◌<◌, get_or, map, refl, ◌≤◌, Bool, not, Option, None, find, inl, inr, ◌==◌, nat_eq, nat_lt, false, ◌&&◌, ◌||◌, set, position}
+use Rattle.std.proofs.lemmas.List.{length-append, take_more, length-map, map_push}
+use Rattle.std.proofs.lemmas.Grind.{flat_map-append}
+use Rattle.std.proofs.lemmas.Option.{get_or_from_slice_get, slice_get_within, none-some, same_Some, slice_get-get_or, slice_get-map}
+use Rattle.sc_papers.specs.Restriction.{joined}
+use Rattle.sc_papers.specs.declared.rejection.Rejection.{Rejection}
+use Rattle.std.specs.List.Sorted.{IsStrictlyIncreasing}
+use Rattle.std.specs.Option.{option_map}
+use Rattle.sc_papers.specs.Market.{Market, student_at, students_of, choices_of}
+use Rattle.sc_papers.proofs.Choices.{one-place, found-is, found-none, places-end}
+use Rattle.sc_papers.specs.WellFormed.{WellFormed, WithinLimits}
+use Rattle.sc_checkpoint.specs.Chains.{logs_at, logs_in, students_in, with_chain, Chain}
+use Rattle.sc_checkpoint.specs.Positions.{LieBelow}
+use Rattle.sc_checkpoint.proofs.Rising.{rising-once}
+use Rattle.sc_papers.specs.Log.{is_rejected, next_choice}
+use Rattle.sc_papers.proofs.Students.{choices-short, choices-differ}
+use Rattle.sc_checkpoint.specs.Ranks.{has_rank, AreRejectedRanks, IsFirstOutside, AreTabled}
+use Rattle.sc_checkpoint.specs.NextChoices.{next_choices_after}
+use Rattle.sc_checkpoint.specs.declared.standing.Standing.{Standing}
+use Rattle.sc_checkpoint.specs.declared.rank_set.RankSet.{RankSet}
 use Rattle.std.proofs.Math.Bool.{or-false}
 use Rattle.std.specs.List.{position_or_len}
 use Rattle.std.proofs.lemmas.Bool.{cases_eq, cases_lt, cond-true, lt-ltb, eqb-true, eq-eqb, ne_eqb, false≢true, false_from_ne_true, and_parts}
 use Rattle.std.proofs.lemmas.List.Quantifiers.{position-Some}
 use Rattle.std.proofs.lemmas.List.Sums.{fails_before_first}
-use Rattle.std.proofs.lemmas.Option.{none-some, same_Some, slice_get_within, slice_get-get_or, get_or_from_slice_get}
-use Rattle.sc_papers.specs.Market.{Market, students_of, choices_of}
-use Rattle.sc_papers.specs.WellFormed.{WellFormed, WithinLimits}
-use Rattle.sc_papers.specs.Log.{is_rejected}
-use Rattle.sc_papers.specs.declared.rejection.Rejection.{Rejection}
-use Rattle.sc_papers.proofs.Choices.{one-place}
 use Rattle.sc_papers.proofs.Rejections.{is_of, rejected-push}
-use Rattle.sc_papers.proofs.Students.{choices-differ, choices-short}
 use Rattle.sc_checkpoint.proofs.Replacing.{get-set-other, get-set-same}
-use Rattle.sc_checkpoint.specs.Ranks.{has_rank, AreTabled}
-use Rattle.sc_checkpoint.specs.declared.rank_set.RankSet.{RankSet}
+
+-- the first of a list and one more
+pub take-next : {X : Type 0} (xs : List X) (k : ℕ) (x : X) → slice_get xs k ≡ Some x → take (k + 1) xs ≡ take k xs ++ x ∷ []
+take-next xs k x here = take_more xs k x (slice_get_within xs k x here) ∙ ap (λ y. take k xs ++ y ∷ []) (get_or_from_slice_get xs k x x here)
+
+-- one more segment, joined
+pub joined_next : (segments : List (List Rejection)) (k : ℕ) (s : List Rejection) → slice_get segments k ≡ Some s → joined (take k segments) ++ s ≡ joined (take (k + 1) segments)
+joined_next segments k s here =
+    ap (λ last. joined (take k segments) ++ last) (sym (append-nil s)) ∙ sym (flat_map-append (λ (segment : List Rejection). segment) (take k segments) (s ∷ []))
+    ∙ ap joined (sym (take-next segments k s here))
+
+pub count-next : (segments : List (List Rejection)) (k count most : ℕ) (s : List Rejection) → slice_get segments k ≡ Some s → count ≡ min (length (joined (take k segments))) most
+    → min (count + length s) most ≡ min (length (joined (take (k + 1) segments))) most
+count-next segments k count most s here is =
+    omega (arith, is, length-append (joined (take k segments)) s, ap (λ (log : List Rejection). length log) (joined_next segments k s here))
+
+-- The chain, the segment and the student at a position.
+
+-- the chain at a position, by its student and its rejections
+chain-at : (chains : List Chain) (at i : ℕ) (log : List Rejection) → slice_get (students_in chains) at ≡ Some i → slice_get (logs_in chains) at ≡ Some log → slice_get chains at ≡ Some (record { student = i; rejections = log })
+chain-at [] at i log here its = absurd (none-some i here)
+chain-at (chain ∷ chains) zero i log here its = λ t. Some (record { student = same_Some chain.student i here t; rejections = same_Some chain.rejections log its t })
+chain-at (chain ∷ chains) (suc at) i log here its = chain-at chains at i log here its
+
+pub chain_next : (chains : List Chain) (k i : ℕ) (log : List Rejection) → slice_get (students_in chains) k ≡ Some i → slice_get (logs_in chains) k ≡ Some log → with_chain (take k chains) i log ≡ take (k + 1) chains
+chain_next chains k i log here its = sym (take-next chains k (record { student = i; rejections = log }) (chain-at chains k i log here its))
+
+-- the student at the position that stands at an index
+pub picked-student : (m : Market) (positions : List ℕ) (k i : ℕ) → LieBelow (length (students_of m)) positions → slice_get (map (student_at m) positions) k ≡ Some i
+    → (k < length positions) × (slice_get (students_of m) (get_or positions k 0) ≡ Some i)
+picked-student m positions k i within here =
+    let low : k < length positions = omega (arith, slice_get_within (map (student_at m) positions) k i here, length-map positions (student_at m)) in
+    let is : student_at m (get_or positions k 0) ≡ i =
+    same_Some (student_at m (get_or positions k 0)) i (sym (slice_get-map (student_at m) positions k ∙ ap (option_map (student_at m)) (slice_get-get_or positions k 0 low)) ∙ here) in
+    (low, slice_get-get_or (students_of m) (get_or positions k 0) 0 (within k low) ∙ ap Some is)
+
+pub picked-here : (m : Market) (positions : List ℕ) (k at i : ℕ) → k < length positions → get_or positions k 0 ≡ at → slice_get (students_of m) at ≡ Some i → slice_get (map (student_at m) positions) k ≡ Some i
+picked-here m positions k at i low is here =
+    slice_get-map (student_at m) positions k ∙ ap (option_map (student_at m)) (slice_get-get_or positions k 0 low)
+    ∙ ap Some (ap (student_at m) is ∙ get_or_from_slice_get (students_of m) at i 0 here)
+
+pub picked-once : (m : Market) (positions : List ℕ) → WellFormed m → IsStrictlyIncreasing positions → LieBelow (length (students_of m)) positions
+    → (j k t : ℕ) → slice_get (map (student_at m) positions) j ≡ Some t → slice_get (map (student_at m) positions) k ≡ Some t → j ≡ k
+picked-once m positions well rising within j k t here there =
+    let (low_j, at_j) = picked-student m positions j t within here in
+    let (low_k, at_k) = picked-student m positions k t within there in
+    rising-once positions j k rising low_j low_k (one-place (students_of m) (get_or positions j 0) (get_or positions k 0) t well.students_differ at_j at_k)
+
+-- the log of the segments at positions, one after the other
+pub picked-next : (positions : List ℕ) (chains : List Chain) (k at : ℕ) (log : List Rejection) → k < length positions → get_or positions k 0 ≡ at → slice_get (logs_in chains) at ≡ Some log
+    → joined (take (k + 1) (logs_at positions chains)) ≡ joined (take k (logs_at positions chains)) ++ log
+picked-next positions chains k at log low is here =
+    sym (joined_next (logs_at positions chains) k log
+    (slice_get-map (λ p. get_or (logs_in chains) p []) positions k ∙ ap (option_map (λ p. get_or (logs_in chains) p [])) (slice_get-get_or positions k 0 low)
+    ∙ ap Some (ap (λ p. get_or (logs_in chains) p []) is ∙ get_or_from_slice_get (logs_in chains) at log [] here)))
+
+-- The first choice whose rank is not in a set, and where students stand.
+
+-- the first choice whose rank is not in the set stands at the first rank that is not
+outside-at : (set : RankSet) (choices : List ℕ) (rank : ℕ) (test : ℕ → Bool) → length choices ≤ 32 → ((k t : ℕ) → slice_get choices k ≡ Some t → has_rank set k ≡ test t)
+    → IsFirstOutside set rank → find (λ t. not (test t)) choices ≡ slice_get choices rank
+outside-at set choices rank test short agree first =
+    go (slice_get choices rank) refl
+  where
+    go : (o : Option ℕ) → slice_get choices rank ≡ o → find (λ t. not (test t)) choices ≡ o
+    go None past =
+        found-none (λ t. not (test t)) choices
+        (λ k t at. ap not (sym (agree k t at) ∙ first.below k (omega (arith, places-end choices rank past, slice_get_within choices k t at))))
+    go (Some s) here =
+        found-is (λ t. not (test t)) choices rank s here
+        (ap not (sym (agree rank s here) ∙ first.outside (omega (arith, short, slice_get_within choices rank s here))))
+        (λ k t low at. ap not (sym (agree k t at) ∙ first.below k low))
+
+-- one more student who stands
+pub standings-more : (m : Market) (log : List Rejection) (students : List ℕ) (at i : ℕ) (choice : Standing) → slice_get students at ≡ Some i → choice ≡ record { student = i; next = next_choice m log i } → next_choices_after m log (take at students) ++ choice ∷ [] ≡ next_choices_after m log (take (at + 1) students)
+standings-more m log students at i choice here stands =
+    ap (λ last. next_choices_after m log (take at students) ++ last ∷ []) stands
+    ∙ sym (map_push (λ (j : ℕ). let s : Standing = record { student = j; next = next_choice m log j } in s) (take at students) i)
+    ∙ ap (next_choices_after m log) (sym (take-next students at i here))
+
+-- the first of a student's choices that is not among those that rejected them is their next choice
+pub next-found : (m : Market) (log : List Rejection) (i : ℕ) (set : RankSet) (rank : ℕ) → WithinLimits m → AreRejectedRanks m log i set → IsFirstOutside set rank
+    → slice_get (choices_of m i) rank ≡ next_choice m log i
+unfolding next_choice
+next-found m log i set rank within agree first =
+    let short : length (choices_of m i) ≤ 32 = omega (arith, choices-short m within i) in
+    sym (outside-at set (choices_of m i) rank (is_rejected log i) short agree first)
+
+-- One more entry of a log, put into a table of ranks.
 
 -- where there is no position, no member passes
 pub position-none : (test : ℕ → Bool) (xs : List ℕ) (k x : ℕ) → position test xs ≡ None → slice_get xs k ≡ Some x → test x ≡ false

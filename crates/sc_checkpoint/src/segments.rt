@@ -1,3 +1,13 @@
+ghost use Rattle.std.specs.Prelude.{◌≡◌, ◌<◌, ◌≤◌, List, [], length, map, min, remove, take, slice_get, Some};
+ghost use Rattle.std.specs.Prelude.{IfOk, IfSome, OnOk, OnErr};
+ghost use Rattle.std.specs.List.Sorted.{IsStrictlyIncreasing};
+ghost use Rattle.sc_papers.specs.Restriction.{joined};
+ghost use Rattle.sc_papers.specs.Market.{student_at, students_of};
+ghost use Rattle.sc_checkpoint.specs.Chains.{Chain, students_in, logs_in, logs_at, replaced, with_chain};
+ghost use Rattle.sc_checkpoint.specs.Spans.{chains_in, AreWithin};
+ghost use Rattle.sc_checkpoint.specs.NextChoices.{next_choices_after};
+ghost use Rattle.sc_checkpoint.specs.Positions.{LieBelow};
+
 use crate::next_choices::{first_positions, rejected_ranks_at};
 use crate::span::{Span, Spans, push_span, replace_spans};
 use crate::standing::{Standing, Standings};
@@ -23,10 +33,6 @@ pub struct Segments {
 }
 
 impl Model for Segments {
-    ghost use Rattle.std.specs.Prelude.{List};
-    ghost use Rattle.sc_checkpoint.specs.Chains.{Chain};
-    ghost use Rattle.sc_checkpoint.specs.Spans.{chains_in, AreWithin};
-
     ghost Value = { List Chain };
 
     ghost view = { λ s. chains_in s.entries.items s.spans.items };
@@ -35,15 +41,6 @@ impl Model for Segments {
 }
 
 impl Segments {
-    ghost use Rattle.std.specs.Prelude.{◌≡◌, ◌<◌, ◌≤◌, [], length, map, min, remove, take, slice_get, Some, IfOk, IfSome, OnOk, OnErr};
-    ghost use Rattle.std.specs.List.Sorted.{IsStrictlyIncreasing};
-    ghost use Rattle.sc_papers.specs.Restriction.{joined};
-    ghost use Rattle.sc_checkpoint.specs.Chains.{students_in, logs_in, logs_at, replaced, with_chain};
-    ghost use Rattle.sc_checkpoint.specs.NextChoices.{next_choices_after};
-    ghost use Rattle.sc_checkpoint.specs.Positions.{LieBelow};
-    ghost use Rattle.sc_checkpoint.specs.Spans.{chains_in, AreWithin};
-    ghost use Rattle.sc_papers.specs.Market.{student_at, students_of};
-
     /// No segments. It takes no memory.
     pub fn new(alloc: Global) -> Self
         ensures { result ≡ [] }
@@ -119,7 +116,7 @@ impl Segments {
 
     /// The log of the first `k` students as a value of its own: the first `k` segments joined. The only error is
     /// a refused growth. The cost is `k` and the log's length.
-    #[tactic(auto, using(crate::proofs::Joining::joined_next))]
+    #[tactic(auto, using(crate::proofs::Marking::joined_next))]
     pub fn prefix(&self, k: usize) -> Result<Vec<Rejection>, AllocError>
         requires { k ≤ length self.now }
         ensures { IfOk result (λ log. log.items ≡ joined (take k (logs_in self.now))) }
@@ -133,7 +130,7 @@ impl Segments {
 
     /// The first `k` segments, or the error of a refused growth. The cost is `k` and the length of
     /// their log, which are copied.
-    #[tactic(auto, using(crate::proofs::Passing::chain_next))]
+    #[tactic(auto, using(crate::proofs::Marking::chain_next))]
     pub fn copy_prefix(&self, k: usize) -> Result<Self, AllocError>
         requires { k ≤ length self.now }
         ensures { IfOk result (λ segments. segments ≡ take k self.now) }

@@ -1,6 +1,7 @@
 //! Segments as spans of one list of entries.
 
-ghost use Rattle.std.specs.Prelude.{◌≡◌, ℕ, ◌+◌, ◌≤◌, ◌<◌, ◌^◌, length, map, slice_get, Some, OnErr, OnOk};
+ghost use Rattle.std.specs.Prelude.{◌≡◌, ℕ, ◌+◌, ◌≤◌, ◌<◌, ◌^◌, List, [], drop, length, map, slice_get, take, Some};
+ghost use Rattle.std.specs.Prelude.{IfOk, OnErr, OnOk};
 ghost use Rattle.sc_checkpoint.specs.Chains.{replaced, with_chain};
 ghost use Rattle.sc_checkpoint.specs.Positions.{LieBelow};
 ghost use Rattle.sc_checkpoint.specs.declared.span.Span.{Span};
@@ -74,17 +75,12 @@ pub struct Spans {
 }
 
 impl Model for Spans {
-    ghost use Rattle.std.specs.Prelude.{List};
-    ghost use Rattle.sc_checkpoint.specs.declared.span.Span.{Span as Stretch};
-
-    ghost Value = { List Stretch };
+    ghost Value = { List Span };
 
     ghost view = { λ s. s.spans.items };
 }
 
 impl Spans {
-    ghost use Rattle.std.specs.Prelude.{[], drop, take, IfOk};
-
     /// No segments, and room for so many. The only error is a refused growth.
     pub fn with_room(alloc: Global, count: usize) -> Result<Self, AllocError>
         ensures { IfOk result (λ spans. spans ≡ []) }

@@ -29,7 +29,7 @@ use Rattle.sc_papers.proofs.Students.{choice-known, lister-among}
 use Rattle.sc_region.specs.Districts.{listed_by, unlisted_by}
 use Rattle.sc_region.specs.Groups.{entrants, first_choice, new_choices, start_of}
 use Rattle.sc_region.specs.Region.{amended_school, amended_student, Lists}
-use Rattle.sc_region.proofs.Choosing.{first-listed}
+use Rattle.sc_region.proofs.Joining.{first-listed}
 
 -- what the papers hold of a student tells what they list
 choices-told : (m : Market) (i : ℕ) (student : Student) → student_of m i ≡ Some student → choices_of m i ≡ student.choices

@@ -19,8 +19,7 @@ use Rattle.sc_papers.proofs.Students.{lister-among}
 use Rattle.sc_region.specs.Districts.{AreDistricts, DistrictsView, listed_by, firsts_at, unlisted_by, new_first}
 use Rattle.sc_region.specs.Groups.{first_choice, new_choices, position_of, start_of, widened}
 use Rattle.sc_region.proofs.Changes.{choices-after, enter-may, of-changed}
-use Rattle.sc_region.proofs.Choosing.{first-listed}
-use Rattle.sc_region.proofs.Joining.{list-coarser}
+use Rattle.sc_region.proofs.Joining.{first-listed, list-coarser}
 use Rattle.sc_region.proofs.Reaching.{region-together}
 
 -- the schools stay as they are
@@ -38,12 +37,9 @@ schools-stay m (Correct i zone siblings continuing) = keys-changed m i (λ stude
 schools-stay m _ = refl
 
 -- who comes, comes with choices
-positive : (n : ℕ) → (n == 0) ≡ false → 0 < n
-positive n some = grind (arith, nat_tests)
-
 pub listed_by-some : (m : Market) (a : Amendment) → verdict m a ≡ None → (i : ℕ) → listed_by a ≡ Some i → 0 < length (new_choices a)
 listed_by-some m (Enter j zone siblings choices continuing) allowed i is = (enter-may m j zone siblings choices continuing allowed).lists.choices_some
-listed_by-some m (Rerank j choices) allowed i is = positive (length choices) (refuse_if-none (length choices == 0) EmptyList (first_of-none (objections_to_rerank m j choices) allowed).1.0)
+listed_by-some m (Rerank j choices) allowed i is = let some = refuse_if-none (length choices == 0) EmptyList (first_of-none (objections_to_rerank m j choices) allowed).1.0 in grind (arith, nat_tests, some)
 listed_by-some m _ allowed i is = absurd (none-some i is)
 
 -- the widened districts, with the students listed anew, are districts of the papers after the amendment

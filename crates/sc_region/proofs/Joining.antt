@@ -1,23 +1,43 @@
--- What joining lists does to the groups of schools.
-use Rattle.std.proofs.Common.{◌≡◌, ◌⊎◌, inl, inr, sym, ap, subst, ◌∙◌, ℕ, [], ◌∷◌, Contains, ◌<◌, nat_eq, true, List, length, take, ◌+◌, min, max, get_or, Some, None, Bool, position, arith}
+-- Students' choices and the positions of their schools, and what joining lists does to the groups of schools.
+use Rattle.std.proofs.Common.{◌≡◌, ◌∙◌, ap, ℕ, ◌<◌, nat_eq, true, List, [], get_or, length, Option, Some, None, Contains, IfSome, is_some, sym, map, position, arith, ◌⊎◌, inl, inr, subst, ◌∷◌, take, ◌+◌, min, max, Bool}
+use Rattle.std.proofs.lemmas.List.{get_or_read, get_or-map, length-map, get_or_default, map_push, take_more}
+use Rattle.std.specs.Option.{option_map_or}
+use Rattle.std.proofs.lemmas.Bool.{false≢true, cases_Bool, cases_eq}
+use Rattle.std.proofs.lemmas.List.Elements.{Contains-get_or}
+use Rattle.std.proofs.lemmas.Map.Entries.{All-lookup, length-keys_of}
+use Rattle.sc_papers.specs.Market.{Market, choices_of, is_student, student_of, schools_of, is_school, student_at, students_of}
+use Rattle.sc_papers.specs.WellFormed.{WellFormed, IsProper}
+use Rattle.sc_papers.specs.declared.records.Student.{Student}
+use Rattle.sc_region.specs.Groups.{first_choice, position_of, group_of, joined, joined_choices, joined_list, joined_students, moved, students_at}
+use Rattle.sc_papers.specs.Classed.{Classed}
+use Rattle.sc_papers.proofs.Positions.{position-at, among-student, school-position}
 use Rattle.std.specs.List.{fold, position_or_len, range_with_len}
 use Rattle.std.specs.Prelude.{nat_lt}
-use Rattle.std.proofs.lemmas.Bool.{cases_Bool, cases_eq}
 use Rattle.std.proofs.lemmas.Bool.Decides.{nat_tests}
-use Rattle.std.proofs.lemmas.List.{get_or_default, get_or-map, map_push, take_more}
 use Rattle.std.proofs.lemmas.List.Sums.{fold-append}
-use Rattle.std.proofs.lemmas.Map.Entries.{length-keys_of}
-use Rattle.sc_papers.specs.Market.{Market, choices_of, is_school, is_student, schools_of, student_at, students_of}
-use Rattle.sc_papers.specs.WellFormed.{WellFormed}
 use Rattle.sc_papers.proofs.Counting.{contains-cons, contains-head, contains-tail}
 use Rattle.sc_papers.proofs.Students.{choice-known, lister-among}
-use Rattle.sc_papers.proofs.Positions.{among-student, position-at, school-position}
-use Rattle.sc_region.specs.Groups.{first_choice, group_of, joined, joined_choices, joined_list, joined_students, moved, position_of, students_at}
-use Rattle.sc_region.proofs.Choosing.{first-listed}
 use Rattle.sc_region.proofs.Roots.{length-joined}
 use Rattle.std.proofs.lemmas.List.FromFn.{get_or-range_with_len, length-range_with_len}
 use Rattle.sc_papers.specs.declared.amendment.Amendment.{Amendment}
 use Rattle.sc_region.specs.Region.{Lists}
+
+pub choices-some : (m : Market) → WellFormed m → (i : ℕ) → is_student m i ≡ true → 0 < length (choices_of m i)
+unfolding choices_of
+choices-some m well i known = go (student_of m i) (All-lookup (IsProper m) (nat_eq i) m.students well.students_proper) known
+  where
+    go : (found : Option Student) → IfSome found (IsProper m) → is_some found ≡ true → 0 < length (option_map_or (λ student. student.choices) found [])
+    go None proper known = absurd (false≢true known)
+    go (Some student) proper known = proper.choices_some
+
+pub first-listed : (m : Market) → WellFormed m → (i : ℕ) → is_student m i ≡ true → Contains (choices_of m i) (first_choice m i)
+first-listed m well i known = Contains-get_or (choices_of m i) 0 0 (choices-some m well i known)
+
+-- a first choice that is read
+pub first-read : (xs ys : List ℕ) (r : ℕ) → 0 < length ys → r ≡ get_or xs 0 r → xs ≡ ys → r ≡ get_or ys 0 0
+first-read xs ys r some is same = let here : r ≡ get_or ys 0 r = is ∙ ap (λ zs. get_or zs 0 r) same in get_or_read ys 0 r some here 0
+
+-- What joining lists does to the groups of schools.
 
 -- after a move two groups are one where they were one, or where they are the two that the move makes one
 moved-same : (x y g h : ℕ) → moved (min x y) (max x y) g ≡ moved (min x y) (max x y) h → (g ≡ h) ⊎ (((g ≡ x) × (h ≡ y)) ⊎ ((g ≡ y) × (h ≡ x)))
@@ -224,9 +244,49 @@ module _ (m : Market) (well : WellFormed m) where
       students (range_with_len 0 (length (schools_of m))) start-whole i among (known i among) s
 
   -- and of all
-  pub grouped-partial : (a : Amendment) → IsPartial m a (joined_students m (students_of m))
-  grouped-partial a = joined-partial a (students_of m) (λ i among. among-student m i among)
-
   pub grouped-together : (i s : ℕ) → Contains (choices_of m i) s
       → group_of m (joined_students m (students_of m)) s ≡ group_of m (joined_students m (students_of m)) (first_choice m i)
   grouped-together i s listed = joined-together (students_of m) (λ j among. among-student m j among) i s (lister-among m i s listed) listed
+
+-- The positions of a student's choices are those of the schools that they name.
+
+-- these are the positions of the choices' schools
+abbrev pub ArePositions : Market → List ℕ → List ℕ → Type 0
+ArePositions m positions choices = map Some positions ≡ map (λ s. position (nat_eq s) (schools_of m)) choices
+
+-- as many as there are choices
+positions-count : (m : Market) (positions choices : List ℕ) → ArePositions m positions choices → length positions ≡ length choices
+positions-count m positions choices same =
+    sym (length-map positions Some) ∙ ap length same ∙ length-map choices (λ s. position (nat_eq s) (schools_of m))
+
+pub choices-count : (m : Market) (listed : List Classed) (choices : List ℕ) → ArePositions m (map (λ c. c.position) listed) choices → length listed ≡ length choices
+choices-count m listed choices same = sym (length-map listed (λ c. c.position)) ∙ positions-count m (map (λ c. c.position) listed) choices same
+
+-- each is the position at which its school is found
+choice-found : (m : Market) (positions choices : List ℕ) → ArePositions m positions choices
+    → (k p s : ℕ) → k < length positions → position (nat_eq (get_or choices k s)) (schools_of m) ≡ Some (get_or positions k p)
+choice-found m positions choices same k p s low =
+    sym (get_or-map (λ t. position (nat_eq t) (schools_of m)) choices k s (Some p) (omega (arith, low, positions-count m positions choices same)))
+    ∙ ap (λ (l : List (Option ℕ)). get_or l k (Some p)) (sym same)
+    ∙ get_or-map Some positions k p (Some p) low
+
+-- and so each choice has the position of its school
+pub choice-told : (m : Market) (listed : List Classed) (choices : List ℕ) → ArePositions m (map (λ c. c.position) listed) choices
+    → (k s : ℕ) (c : Classed) → k < length listed → c ≡ get_or listed k c → c.position ≡ position_of m (get_or choices k s)
+choice-told m listed choices same k s c low is =
+    ap (λ c'. c'.position) is ∙ sym (get_or-map (λ c'. c'.position) listed k c c.position low)
+    ∙ sym (position-is (nat_eq (get_or choices k s)) (schools_of m) (get_or (map (λ c'. c'.position) listed) k c.position)
+    (choice-found m (map (λ c'. c'.position) listed) choices same k c.position s (omega (arith, low, length-map listed (λ c'. c'.position)))))
+
+-- within the schools
+pub choice-within : (m : Market) (listed : List Classed) (choices : List ℕ) → ArePositions m (map (λ c. c.position) listed) choices
+    → (k : ℕ) (c : Classed) → k < length listed → c ≡ get_or listed k c → c.position < length (schools_of m)
+choice-within m listed choices same k c low is =
+    let places = map (λ c'. c'.position) listed in
+    let here : c.position ≡ get_or places k c.position = ap (λ c'. c'.position) is ∙ sym (get_or-map (λ c'. c'.position) listed k c c.position low) in
+    omega (
+      arith,
+      here,
+      (position-at (schools_of m) (get_or choices k 0) (get_or places k c.position)
+          (choice-found m places choices same k c.position 0 (omega (arith, low, length-map listed (λ c'. c'.position))))).0,
+    )

@@ -13,8 +13,7 @@ use Rattle.sc_region.proofs.Filtering.{filter-among, filter-differ, filter-kept}
 use Rattle.sc_region.specs.Groups.{entrants, first_choice, group_of, is_member, joined_students, members_beside, members_of, new_choices, start_of, widened}
 use Rattle.sc_region.specs.Region.{amended_student, InRegion, amended, concerned, next, Lists}
 use Rattle.sc_region.proofs.Changes.{amended-known, amended-some, entrant-amended, entrants-differ, new-amended, new-known, new-listed, old-or_new, start-amended, start-first, start-known, start-listed}
-use Rattle.sc_region.proofs.Choosing.{first-listed}
-use Rattle.sc_region.proofs.Joining.{Linked, itself, shared, through, AreWhole, Coarser, IsPartial, joined-partial, joined-together, list-coarser, list-partial, list-together}
+use Rattle.sc_region.proofs.Joining.{first-listed, Linked, itself, shared, through, AreWhole, Coarser, IsPartial, joined-partial, joined-together, list-coarser, list-partial, list-together}
 
 -- the groups that all lists join, those before the amendment and those after it
 unfoldable pub region_groups : Market → Amendment → List ℕ
@@ -78,11 +77,6 @@ module _ (m : Market) (a : Amendment) (well : WellFormed m) (allowed : verdict m
   widened-partial =
       list-partial m (start_of m a) (first_known m a well allowed) (new_choices a) (new-known m a allowed) a groups (new-linked m a well allowed) before
 
--- and so it is with the new choices joined
-pub member-in : (m : Market) (a : Amendment) → WellFormed m → verdict m a ≡ None → (groups : List ℕ) → IsPartial m a groups
-    → (i : ℕ) → Contains (students_of m) i → group_of m (widened m a groups) (first_choice m i) ≡ group_of m (widened m a groups) (start_of m a) → InRegion m a i
-member-in m a well allowed groups before = partial-in m a well allowed (widened m a groups) (widened-partial m a well allowed groups before)
-
 -- groups that hold together what some students list before the amendment
 module _ (m : Market) (a : Amendment) (well : WellFormed m) (allowed : verdict m a ≡ None) (groups : List ℕ) (whole : AreWhole m groups)
     (Of : ℕ → Type 0) (closed : (i s : ℕ) → Of i → Contains (choices_of m i) s → group_of m groups s ≡ group_of m groups (first_choice m i)) where
@@ -137,7 +131,7 @@ pub students-tell : (m : Market) (a : Amendment) → WellFormed m → verdict m 
     → ((i : ℕ) → InRegion m a i → is_student m i ≡ true → Contains students i) → TellRegion m a (widened m a (joined_students m students))
 unfolding is_member
 students-tell m a well allowed students known enough i i_known = (
-  λ passes. member-in m a well allowed (joined_students m students) (joined-partial m well a students known) i (student-among m i i_known) (eqb-true _ _ passes),
+  λ passes. partial-in m a well allowed _ (widened-partial m a well allowed (joined_students m students) (joined-partial m well a students known)) i (student-among m i i_known) (eqb-true _ _ passes),
   λ inside.
       eq-eqb _ _
       (in-member m a well allowed (joined_students m students) (joined-partial m well a students known).whole (InRegion m a)

@@ -1,9 +1,13 @@
 //! The districts of the schools, kept beside the papers.
 
 ghost use Rattle.std.specs.Prelude.{◌≡◌, ◌<◌, ◌==◌, ℕ, None, Some, filter, length, not, Contains, IfOk, OnOk};
+ghost use Rattle.std.specs.Prelude.{slice_index};
 ghost use Rattle.sc_papers.specs.Market.{schools_of, students_of};
+ghost use Rattle.sc_papers.specs.Verdict.{after, verdict};
 ghost use Rattle.sc_region.specs.Districts.{listed_by, firsts_at, unlisted_by, lists_in, new_first, students_in};
-ghost use Rattle.sc_region.specs.Groups.{first_choice, position_of, IsAllowedBeside};
+ghost use Rattle.sc_region.specs.Districts.{DistrictsView, AreDistricts, AreSearchedFrom, AreWidened};
+ghost use Rattle.sc_region.specs.Groups.{first_choice, position_of, IsAllowedBeside, schools_of_group};
+ghost use Rattle.sc_region.specs.Telling.{AreOfRegion, MarkRegion};
 
 use crate::candidates::{
     count_at, few_hold_together, first_few, listed_at, positions_in, schools_of_group,
@@ -36,8 +40,6 @@ pub struct Districts {
 }
 
 impl Model for Districts {
-    ghost use Rattle.sc_region.specs.Districts.{lists_in, DistrictsView};
-
     ghost Value = { DistrictsView };
 
     ghost view = { λ d. record { groups = d.groups.items; firsts = lists_in d.firsts.items } };
@@ -168,13 +170,6 @@ fn let_come(
 }
 
 impl Districts {
-    ghost use Rattle.std.specs.Prelude.{◌≡◌, ◌<◌, None, length, slice_index, IfOk};
-    ghost use Rattle.sc_papers.specs.Market.{schools_of};
-    ghost use Rattle.sc_papers.specs.Verdict.{after, verdict};
-    ghost use Rattle.sc_region.specs.Districts.{AreDistricts, AreSearchedFrom, AreWidened};
-    ghost use Rattle.sc_region.specs.Groups.{schools_of_group, IsAllowedBeside};
-    ghost use Rattle.sc_region.specs.Telling.{AreOfRegion, MarkRegion};
-
     /// The districts of the papers. The only error is want of memory.
     ///
     /// The cost is one pass over all choices, by their positions. Memory is taken for each school and each

@@ -1,5 +1,9 @@
 //! The students of a region, by position.
 
+ghost use Rattle.std.specs.Prelude.{Bool, List, ◌≡◌, ◌↔◌, ◌<◌, ℕ, false, length, slice_index_or, Contains, IsTrue};
+ghost use Rattle.std.specs.List.Sorted.{IsStrictlyIncreasing};
+ghost use Rattle.sc_region.specs.Marks.{marks_at, AreRisingBelow};
+
 use std::marker::Model;
 
 /// Which students of the papers are in a region: a mark for each of them, in order of entry. What is kept is
@@ -13,9 +17,6 @@ pub struct RegionPositions {
 }
 
 impl Model for RegionPositions {
-    ghost use Rattle.std.specs.Prelude.{Bool, List};
-    ghost use Rattle.sc_region.specs.Marks.{marks_at, AreRisingBelow};
-
     ghost Value = { List Bool };
 
     ghost view = { λ r. marks_at r.count r.positions.items };
@@ -24,9 +25,6 @@ impl Model for RegionPositions {
 }
 
 impl RegionPositions {
-    ghost use Rattle.std.specs.Prelude.{◌≡◌, ◌↔◌, ◌<◌, ℕ, false, length, slice_index_or, Contains, IsTrue};
-    ghost use Rattle.std.specs.List.Sorted.{IsStrictlyIncreasing};
-
     /// A mark for each of so many students, where these rising positions are marked. It takes no memory.
     pub(crate) fn at(count: usize, positions: Vec<usize>) -> Self
         requires rising { IsStrictlyIncreasing positions.items }

@@ -1,5 +1,9 @@
 //! The students of a region.
 
+ghost use Rattle.std.specs.Prelude.{ℕ, List, ◌≡◌, ◌==◌, ◌↔◌, nat_eq, IsTrue, Contains, length, slice_get};
+ghost use Rattle.std.specs.List.Sorted.{IsStrictlyIncreasing, IsPermutation};
+ghost use Rattle.std.specs.List.{IsDistinct};
+
 use sc_papers::StudentNo;
 use std::marker::Model;
 
@@ -10,11 +14,7 @@ pub struct RegionList {
 }
 
 impl Model for RegionList {
-    ghost use Rattle.std.specs.Prelude.{ℕ, List};
-
     ghost Value = { List ℕ };
-
-    ghost use Rattle.std.specs.List.Sorted.{IsStrictlyIncreasing};
 
     ghost view = { λ l. l.students.items };
 
@@ -22,10 +22,6 @@ impl Model for RegionList {
 }
 
 impl RegionList {
-    ghost use Rattle.std.specs.Prelude.{◌≡◌, ◌==◌, ◌↔◌, nat_eq, IsTrue, Contains, length, slice_get};
-    ghost use Rattle.std.specs.List.{IsDistinct};
-    ghost use Rattle.std.specs.List.Sorted.{IsPermutation, IsStrictlyIncreasing};
-
     /// The list of these students, who differ. It takes no memory.
     pub(crate) fn by_number(mut students: Vec<StudentNo>) -> Self
         requires { IsDistinct nat_eq students.items }

@@ -1,6 +1,6 @@
 //! Groups of schools that are joined step by step.
 
-ghost use Rattle.std.specs.Prelude.{◌≡◌, ◌<◌, true, length, IfOk};
+ghost use Rattle.std.specs.Prelude.{◌≡◌, ◌<◌, true, length, IfOk, ℕ, List, slice_index};
 ghost use Rattle.std.specs.List.{range_with_len};
 ghost use Rattle.sc_region.specs.Groups.{joined};
 ghost use Rattle.sc_region.specs.Roots.{root_of, roots_of, AreParents, KeepsRoots};
@@ -21,9 +21,6 @@ pub(crate) struct SchoolGroups {
 }
 
 impl Model for SchoolGroups {
-    ghost use Rattle.std.specs.Prelude.{ℕ, List};
-    ghost use Rattle.sc_region.specs.Roots.{roots_of, AreParents};
-
     ghost Value = { List ℕ };
 
     ghost view = { λ g. roots_of g.parents.items };
@@ -78,10 +75,6 @@ fn flatten(parents: &mut Vec<usize>)
 }
 
 impl SchoolGroups {
-    ghost use Rattle.std.specs.Prelude.{◌≡◌, ◌<◌, length, slice_index, IfOk};
-    ghost use Rattle.std.specs.List.{range_with_len};
-    ghost use Rattle.sc_region.specs.Groups.{joined};
-
     /// Each of so many schools in a group of its own.
     #[tactic(auto, using(crate::proofs::Roots::start_low, crate::proofs::Roots::roots_start))]
     pub(crate) fn new(alloc: Global, count: usize) -> Result<Self, AllocError>

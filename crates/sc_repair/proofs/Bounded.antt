@@ -17,11 +17,10 @@ use Rattle.sc_papers.proofs.Students.{how_many-agree}
 use Rattle.sc_papers.proofs.Subsets.{well-restricted}
 use Rattle.sc_weave.specs.Weaving.{part_of}
 use Rattle.sc_weave.proofs.Part.{part-segmented}
-use Rattle.sc_repair.specs.Course.{placed_of}
-use Rattle.sc_repair.specs.Locality.{TellsRegion}
+use Rattle.sc_repair.specs.Locality.{placed_of, TellsRegion}
 use Rattle.sc_repair.specs.Rewinding.{rewind_point}
 use Rattle.sc_repair.specs.Standing.{log_of, matching_of, CountsRegion, IsCertified, Standing}
-use Rattle.sc_repair.proofs.LiesApart.{region-apart_after}
+use Rattle.sc_repair.proofs.Regional.{region-apart_after}
 
 -- the segments from a position on have no more entries than all
 part-none : (students : List ℕ) (test : ℕ → Bool) → part_of students test [] ≡ []

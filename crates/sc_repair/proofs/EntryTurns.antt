@@ -24,9 +24,6 @@ turn-of [] p low = absurd (omega (arith, low))
 turn-of (x ∷ xs) zero low = (x, refl)
 turn-of (x ∷ xs) (suc p) low = turn-of xs p (omega (arith, low))
 
-pub turns-each : (t : TurnsOfEntry) → AreTurns t → Each t.positions (length t.turns)
-turns-each t are p low = let (turn, own) = turn-of t.turns p low in (turn, turn-alone t p turn are own)
-
 pub turns-avoid : (t : TurnsOfEntry) → AreTurns t → Avoids t.positions (length t.turns)
 turns-avoid t are turn here = let within = slice_get_within t.turns (length t.turns) turn ((are turn (length t.turns)).0 here) in absurd (omega (arith, within))
 

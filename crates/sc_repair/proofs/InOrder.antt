@@ -131,10 +131,6 @@ pub record IsOrdering (whole : StampedPapers) (turn place end : ℕ) (t : TurnsO
   pub count : length t.positions ≡ end
   pub few : place ≤ turn
 
--- at the beginning
-pub ordering-begun : (t : TurnsOfEntry) (m : Market) (stamps : Stamps) (end : ℕ) → AreInTurn t m stamps → end ≡ length t.positions → IsOrdering (stamped_in_turn t.positions m stamps) 0 0 end t m stamps
-ordering-begun t m stamps end kept is = record { in_turn = kept; same = refl; order = refl; count = sym is; few = omega arith }
-
 -- where the next turn's student stands, and the place for them
 pub ordering-within : (whole : StampedPapers) (turn place end p : ℕ) (t : TurnsOfEntry) (m : Market) (stamps : Stamps) → IsOrdering whole turn place end t m stamps → slice_get t.positions turn ≡ Some (Some p)
     → (place ≤ p) × (p < length m.students)

@@ -46,12 +46,10 @@ use Rattle.sc_region.proofs.MarkedPositions.{below-marked}
 use Rattle.sc_stamps.specs.Record.{record_of}
 use Rattle.sc_stamps.specs.declared.record.Record.{Record}
 use Rattle.sc_repair.specs.Locality.{is_among, marked_in, TellsRegion}
-use Rattle.sc_repair.specs.Newcomer.{newcomer, StandsAfter}
+use Rattle.sc_repair.specs.Changed.{newcomer, StandsAfter}
 use Rattle.sc_repair.specs.Rejoining.{before_leaving, school_in, HasJoined, HasLeft, HasMovedUp, HasSeats, Joins, StandBehind, StandsInside}
-use Rattle.sc_repair.proofs.Changed.{Withdrawn}
-use Rattle.sc_repair.proofs.LiesApart.{alike-entries, others-removed, region-alike, region-apart_after}
-use Rattle.sc_repair.proofs.Regional.{marks-tell, student-outside}
-use Rattle.sc_repair.proofs.Beginning.{students-first}
+use Rattle.sc_repair.proofs.Regional.{Withdrawn, alike-entries, others-removed, region-alike, region-apart_after, marks-tell, student-outside}
+use Rattle.sc_repair.proofs.Course.{students-first}
 use Rattle.sc_repair.proofs.Renewing.{get-take}
 use Rattle.sc_repair.proofs.Resumption.{length-students}
 use Rattle.sc_repair.proofs.Rewinding.{field-kept}

@@ -1,23 +1,28 @@
 -- A settling in which the students of a region have their turn at their positions alone, and all others stay where they are.
-use Rattle.std.proofs.Common.{◌≡◌, add-zero, inl, inr, refl, ap, sym, subst, ◌∙◌, ℕ, zero, suc, ◌+◌, ◌-◌, ◌<◌, ◌≤◌, Bool, true, false, List, [], ◌∷◌, ◌++◌, drop, get_or, length, set, take, Contains, Some, None, slice_get, length-set, arith}
+use Rattle.std.proofs.Common.{◌≡◌, add-zero, inl, inr, refl, ap, sym, subst, ◌∙◌, ℕ, zero, suc, ◌+◌, ◌-◌, ◌<◌, ◌≤◌, Bool, true, false, List, [], ◌∷◌, ◌++◌, drop, get_or, length, set, take, Contains, Some, None, slice_get, length-set, arith, filter, map}
 use Rattle.std.specs.Option.{option_map}
 use Rattle.std.proofs.lemmas.Bool.{cases_lt, cases_Bool}
-use Rattle.std.proofs.lemmas.List.{get_or-take, get_or_default, length-append, length-drop, length-map, length-take, length-take-le, take-append-le, take_all, take_more}
-use Rattle.std.proofs.lemmas.Option.{none-some, same_Some, slice_get-map, slice_get_past, slice_get_within}
-use Rattle.sc_papers.specs.Market.{Market, students_of}
+use Rattle.std.proofs.lemmas.List.{get_or-take, get_or_default, length-append, length-drop, length-map, length-take, length-take-le, take-append-le, take_all, take_more, take-map}
+use Rattle.std.proofs.lemmas.Option.{none-some, same_Some, slice_get-map, slice_get_past, slice_get_within, slice_get-get_or}
+use Rattle.sc_papers.specs.Market.{Market, students_of, student_at}
 use Rattle.sc_papers.specs.declared.rejection.Rejection.{Rejection}
-use Rattle.sc_checkpoint.specs.Chains.{logs_in, replaced, students_in, with_chain, Chain}
+use Rattle.sc_checkpoint.specs.Chains.{logs_in, replaced, students_in, with_chain, Chain, logs_at}
 use Rattle.sc_checkpoint.proofs.Replacing.{get-set-other, get-set-same, replaced-length, replaced-other, replaced-push}
 use Rattle.sc_checkpoint.proofs.Rising.{rising-less}
 use Rattle.sc_engine.proofs.Settling.{take-next}
 use Rattle.sc_engine.specs.RoundView.{RoundView, has_entered, Enters}
+use Rattle.sc_region.proofs.Marked.{marked-told}
 use Rattle.sc_region.proofs.MarkedPositions.{below-marked}
-use Rattle.sc_repair.specs.Course.{GoesOnInside}
-use Rattle.sc_repair.specs.Renewed.{marked_from, renewed_from, without}
-use Rattle.sc_repair.proofs.Chains.{drop-next}
-use Rattle.sc_repair.proofs.Course.{inside-absent, inside-more, outside-more}
+use Rattle.sc_repair.specs.Locality.{GoesOnInside, marked_from, renewed_from, without, log_of, chains_of, is_among, marked_in, marked_before, HaveTurns}
+use Rattle.sc_repair.proofs.Course.{drop-next, inside-absent, inside-more, outside-more}
 use Rattle.sc_repair.proofs.InTurn.{drop-there}
-use Rattle.sc_repair.proofs.Positioned.{within-from, within-rising, within-there}
+use Rattle.sc_repair.proofs.Positioned.{within-from, within-rising, within-there, picked-first}
+use Rattle.std.specs.List.{remove}
+use Rattle.std.proofs.Math.ListN.{get_or-map as get_or-map_default}
+use Rattle.sc_papers.specs.Restriction.{joined}
+use Rattle.sc_papers.proofs.Hands.{hand-there}
+use Rattle.sc_checkpoint.specs.NextChoices.{next_choices_after}
+use Rattle.sc_repair.proofs.Resumption.{length-students}
 
 -- lists in which the same stands everywhere are the same
 pub get-ext : {X : Type 0} (xs ys : List X) → ((p : ℕ) → slice_get xs p ≡ slice_get ys p) → xs ≡ ys
@@ -53,10 +58,6 @@ without-high : (point gap : ℕ) (chains : List Chain) (p : ℕ) → point ≤ l
 without-high point gap chains p fits from =
     get-append-high (take point chains) (drop (point + gap) chains) (p - point) p (omega (arith, from, length-take-le point chains fits))
     ∙ drop-there (point + gap) (p - point) chains ∙ ap (slice_get chains) (omega (arith, from))
-
-pub length-without : (point gap : ℕ) (chains : List Chain) → point ≤ length chains → length (without point gap chains) ≡ point + (length chains - (point + gap))
-length-without point gap chains fits =
-    omega (arith, length-append (take point chains) (drop (point + gap) chains), length-take-le point chains fits, length-drop (point + gap) chains)
 
 -- nobody has had their turn: the first are the old ones
 pub first-without : (point gap : ℕ) (chains : List Chain) → point ≤ length chains → take point (without point gap chains) ≡ take point chains
@@ -293,5 +294,58 @@ module _ {m : Market} {test : ℕ → Bool} {old : List Chain} {marks : List Boo
       let every : take n turns ≡ turns = take_all n turns (omega (arith, all)) in
       let chains = replaced old turns renewed in
       let fits : point ≤ length chains = omega (arith, are.fits, replaced-length old turns renewed) in
-      let count : length (without point gap chains) ≤ end = omega (arith, length-without point gap chains fits, replaced-length old turns renewed, are.long, are.low) in
+      let count : length (without point gap chains) ≤ end = omega (arith, length-append (take point chains) (drop (point + gap) chains), length-take-le point chains fits, length-drop (point + gap) chains, replaced-length old turns renewed, are.long, are.low) in
       subst (λ cs. GoesOnInside m test old point gap r cs end) (ap (λ ps. take end (without point gap (replaced old ps renewed))) every ∙ take_all end (without point gap chains) count) whole
+
+-- The students of a region, before a point and from it on, as the settling finds them.
+nobody : Chain
+nobody = record { student = 0; rejections = [] }
+
+-- the logs at positions are those of the chains there
+logs-picked : (positions : List ℕ) (old : List Chain) → logs_at positions old ≡ logs_in (map (λ p. get_or old p nobody) positions)
+unfolding nobody
+logs-picked [] old = refl
+logs-picked (p ∷ positions) old = λ t. get_or-map_default (λ (c : Chain). c.rejections) old p nobody t ∷ logs-picked positions old t
+
+module _ {m : Market} {old : List Chain} {marks : List Bool} {point end : ℕ} (turns : HaveTurns m marks old point end) where
+  told : (p i : ℕ) → slice_get (students_in old) p ≡ Some i → get_or marks p false ≡ is_among (marked_in marks old) i
+  told p i here = marked-told marks (students_in old) p i turns.differ here
+
+  -- those who have their turn
+  pub are-turns : AreTurns m (is_among (marked_in marks old)) old marks point (length old - end) end
+  are-turns = record {
+    fits = omega (arith, turns.in_order, turns.nobody_new);
+    long = omega (arith, turns.nobody_new);
+    low = turns.in_order;
+    one_each = turns.one_each;
+    there = λ p from before.
+        let here = hand-there m p (omega (arith, before, turns.within)) in
+        (student_at m p, here, turns.step p (student_at m p) from before here);
+    told = told;
+  }
+
+  -- and those before the point: where they stand
+  pub before-stand : students_in (take point old) ≡ take point (students_of m)
+      → next_choices_after m (joined (logs_at (marked_before marks point) old)) (map (student_at m) (marked_before marks point))
+      ≡ next_choices_after m (log_of (is_among (marked_in marks old)) (take point old)) (filter (is_among (marked_in marks old)) (take point (students_of m)))
+  before-stand theirs =
+      let chains : map (λ p. get_or old p nobody) (marked_before marks point) ≡ chains_of (is_among (marked_in marks old)) (take point old) =
+      picked-first (λ p. get_or old p nobody) old (λ (c : Chain). is_among (marked_in marks old) c.student) marks point (omega (arith, turns.in_order, turns.nobody_new))
+      (λ p before. slice_get-get_or old p nobody (omega (arith, before, turns.in_order, turns.nobody_new)))
+      (λ p before. told p (get_or old p nobody).student
+      (slice_get-map (λ (c : Chain). c.student) old p ∙ ap (option_map (λ (c : Chain). c.student)) (slice_get-get_or old p nobody (omega (arith, before, turns.in_order, turns.nobody_new))))) in
+      let logs : logs_at (marked_before marks point) old ≡ logs_in (chains_of (is_among (marked_in marks old)) (take point old)) =
+      logs-picked (marked_before marks point) old ∙ ap logs_in chains in
+      let students : map (student_at m) (marked_before marks point) ≡ filter (is_among (marked_in marks old)) (take point (students_of m)) =
+      picked-first (student_at m) (students_of m) (is_among (marked_in marks old)) marks point (omega (arith, turns.in_order, turns.within, length-students m))
+      (λ p before. hand-there m p (omega (arith, before, turns.in_order, turns.within)))
+      (λ p before. told p (student_at m p)
+      (sym (get-take point (students_in old) p before)
+      ∙ ap (λ xs. slice_get xs p) (take-map (λ (c : Chain). c.student) point old ∙ theirs)
+      ∙ get-take point (students_of m) p before
+      ∙ hand-there m p (omega (arith, before, turns.in_order, turns.within)))) in
+      λ t. next_choices_after m (joined (logs t)) (students t)
+
+-- where one leaves
+pub without-one : (point gap : ℕ) (chains : List Chain) → 0 < gap → gap ≤ 1 → remove chains point ≡ without point gap chains
+without-one point gap chains some one = let is : suc point ≡ point + gap = omega (arith, some, one) in ap (λ k. take point chains ++ drop k chains) is

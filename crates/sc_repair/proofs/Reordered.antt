@@ -8,7 +8,7 @@ use Rattle.sc_stamps.specs.Stamps.{Stamps, with_swapped_stamps}
 use Rattle.sc_stamps.specs.Verdict.{StampedPapers}
 use Rattle.sc_repair.specs.Turns.{AreInTurn, TurnsOfEntry, papers_in_turn, stamped_in_turn, swapped}
 use Rattle.sc_repair.proofs.EntryTurns.{turn-of}
-use Rattle.sc_repair.proofs.InOrder.{IsOrdering, ordering-begun, ordering-done, ordering-next, ordering-passed, ordering-within}
+use Rattle.sc_repair.proofs.InOrder.{IsOrdering, ordering-done, ordering-next, ordering-passed, ordering-within}
 
 -- a turn changes one student at most for another, and the later turns do the rest
 permutes-by : (found : Option ℕ) (whole : StampedPapers) (turn place end : ℕ) (t : TurnsOfEntry) (m : Market) (stamps : Stamps) → IsOrdering whole turn place end t m stamps → slice_get t.positions turn ≡ Some found
@@ -34,5 +34,5 @@ reordered-in_turn t m stamps kept = record {
   seed = refl;
   schools = IsPermutation-refl m.schools;
   students = permutes-from (length t.positions) (stamped_in_turn t.positions m stamps) 0 0 (length t.positions) t m stamps
-      (ordering-begun t m stamps (length t.positions) kept refl) (omega arith);
+      (record { in_turn = kept; same = refl; order = refl; count = refl; few = omega arith }) (omega arith);
 }

@@ -1,31 +1,186 @@
--- A clearing whose papers change inside a region: what its settling needs, and what it comes to.
-use Rattle.std.proofs.Common.{◌≡◌, add-one, add-zero, ◌⊎◌, inl, inr, refl, ap, sym, subst, ◌∙◌, ℕ, zero, suc, ◌+◌, ◌-◌, ◌≤◌, ◌<◌, nat_eq, Bool, true, false, List, ◌++◌, length, take, drop, Option, Some, None, slice_get, arith}
-use Rattle.std.specs.List.{IsDistinct}
-use Rattle.std.proofs.lemmas.List.{length-map, take-append-drop, take-map, take-take}
+-- All up to an end of the order of entry have had their turn: the segments are those of the papers cut there, and every
+-- place and proposal is told.
+use Rattle.std.proofs.Common.{◌≡◌, inl, inr, refl, ap, sym, subst, ◌∙◌, ℕ, ◌+◌, ◌≤◌, ◌==◌, Bool, true, false, ◌&&◌, List, ◌++◌, length, take, drop, is_some, append-nil, arith, add-one, add-zero, ◌⊎◌, zero, suc, ◌-◌, ◌<◌, nat_eq, Option, Some, None, slice_get, get_or, [], ◌∷◌, Contains}
+use Rattle.std.specs.List.{list_any, IsDistinct}
+use Rattle.std.proofs.lemmas.Bool.{cases_Bool, cond-true, cond-false, and_left, false≢true, or_left, eqb-true}
+use Rattle.std.proofs.lemmas.List.{drop_all, drop-map, length-map, length-take, take-map, take-append-drop, take-take}
+use Rattle.sc_papers.specs.Log.{matching_of, next_choice}
+use Rattle.sc_papers.specs.Market.{Market, students_of}
+use Rattle.sc_papers.specs.Matching.{Matching, IsStudentOptimal}
+use Rattle.sc_papers.specs.Restriction.{cut, is_among_first, joined, restricted, outside, AreApart, IsSegmented}
+use Rattle.sc_papers.specs.WellFormed.{WellFormed}
+use Rattle.sc_papers.specs.declared.rejection.Rejection.{Rejection}
+use Rattle.sc_papers.proofs.Cutting.{cut-cut, cut-restricted, segments-settled}
+use Rattle.sc_papers.proofs.Locality.{optimal-outside}
+use Rattle.sc_papers.proofs.Optimality.{settled-optimal}
+use Rattle.sc_papers.proofs.Restriction.{counts-restricted, next-dropped, restricted-restricts}
+use Rattle.sc_papers.proofs.Students.{how_many-agree}
+use Rattle.sc_papers.proofs.Subsets.{well-cut}
+use Rattle.sc_checkpoint.specs.Chains.{logs_in, students_in, Chain}
+use Rattle.sc_papers.specs.Progress.{placed}
+use Rattle.sc_engine.specs.RoundView.{RoundView, has_entered, next_of, without_log, Continues}
+use Rattle.sc_weave.specs.Weaving.{part_of}
+use Rattle.sc_weave.proofs.Counts.{apart-outside}
+use Rattle.sc_weave.proofs.Part.{part-segmented}
+use Rattle.sc_weave.proofs.Region.{rest-segmented}
+use Rattle.sc_weave.proofs.Undoing.{woven-parts}
+use Rattle.sc_weave.proofs.Woven.{woven-segmented}
+use Rattle.sc_repair.specs.Locality.{either_by, log_of, placed_before, placed_of, GoesOnInside, InStep, chains_of, ChangesInside, is_among}
+use Rattle.sc_repair.proofs.Course.{students-first, log-parts, part-chains, entered-inside, next-inside, drop-past, others-past}
+use Rattle.std.proofs.lemmas.List.Folds.{list_any-append}
 use Rattle.std.proofs.lemmas.List.Elements.{filter-append}
 use Rattle.sc_papers.specs.Assignment.{assigned}
-use Rattle.sc_papers.specs.Log.{next_choice}
-use Rattle.sc_papers.specs.Market.{Market, students_of}
-use Rattle.sc_papers.specs.Matching.{IsStudentOptimal}
-use Rattle.sc_papers.specs.Restriction.{cut, joined, outside, IsSegmented}
-use Rattle.sc_papers.specs.WellFormed.{WellFormed}
 use Rattle.sc_papers.proofs.Choices.{places-end}
-use Rattle.sc_papers.proofs.Cutting.{cut-cut}
-use Rattle.sc_papers.proofs.Locality.{optimal-outside}
-use Rattle.sc_checkpoint.specs.Chains.{logs_in, students_in, Chain}
-use Rattle.sc_engine.specs.RoundView.{RoundView, next_of}
-use Rattle.sc_repair.specs.Changed.{HaveChanged, IsResettled}
-use Rattle.sc_repair.specs.Course.{either_by, GoesOnInside, InStep}
-use Rattle.sc_repair.specs.Locality.{chains_of, ChangesInside}
+use Rattle.sc_repair.specs.Changed.{HaveChanged, IsResettled, StandsAfter}
 use Rattle.sc_repair.specs.Standing.{Standing, CountsInside, IsCertified}
-use Rattle.sc_repair.proofs.Beginning.{students-first}
-use Rattle.sc_repair.proofs.Chains.{drop-past}
-use Rattle.sc_repair.proofs.Course.{others-past}
-use Rattle.sc_repair.proofs.Ending.{cut-most, matching-end, proposals-end, segments-end, theirs-end}
-use Rattle.sc_repair.proofs.Kept.{certified-of, count-kept, logs-kept, theirs-kept}
+use Rattle.sc_repair.proofs.Resumption.{certified-of, count-kept, theirs-kept, length-students}
 use Rattle.sc_repair.proofs.Renewing.{get-take}
-use Rattle.sc_repair.proofs.Resumption.{length-students}
 use Rattle.sc_repair.proofs.Rewinding.{segments-rewound}
+use Rattle.std.proofs.lemmas.Cmp.{nat_eq_equiv}
+use Rattle.std.proofs.lemmas.Option.{slice_get-get_or}
+use Rattle.std.proofs.lemmas.Map.Views.{Contains-from_any, list_any-from_Contains}
+use Rattle.sc_papers.proofs.Counting.{contains-head, contains-tail}
+use Rattle.sc_engine.proofs.Forgetting.{continues-without_log, fits-without_log}
+use Rattle.sc_region.specs.Marks.{marked}
+use Rattle.sc_region.proofs.Marked.{marked-there}
+
+-- the students of papers cut at an end
+pub cut-most : (m : Market) (k : ℕ) → length (students_of (cut m k)) ≤ k
+cut-most m k = omega (arith, length-take k (students_of m), ap (λ (xs : List ℕ). length xs) (students-first m k))
+
+-- who is among the first few is among the first
+any-first : (test : ℕ → Bool) (j k : ℕ) (xs : List ℕ) → j ≤ k → list_any test (take j xs) ≡ true → list_any test (take k xs) ≡ true
+any-first test j k xs low here =
+    ap (list_any test) (sym (take-append-drop j (take k xs)))
+    ∙ list_any-append test (take j (take k xs)) (drop j (take k xs))
+    ∙ or_left (list_any test (take j (take k xs))) (list_any test (drop j (take k xs))) (ap (list_any test) (take-take j k xs low) ∙ here)
+
+-- whoever a log of papers cut at an end gives a place is among the first
+placed-first : (m : Market) (j k : ℕ) (log : List Rejection) (i : ℕ) → WellFormed m → j ≤ k → is_some (next_choice (cut m j) log i) ≡ true → is_among_first m k i ≡ true
+placed-first m j k log i well low placed =
+    any-first (λ x. x == i) j k (students_of m) low
+    (elim (cases_Bool (is_among_first m j i)) [
+      | inl first ↦ first
+      | inr later ↦
+          absurd (false≢true (sym (ap is_some (ap (λ n. next_choice n log i) (cut-restricted m j well) ∙ next-dropped (restricted-restricts m (is_among_first m j)) log i later)) ∙ placed))
+    ])
+
+-- so they are counted alike in all papers and in those cut at the end
+placed-cut : (m : Market) (k : ℕ) (test : ℕ → Bool) (a : Matching) → WellFormed m → ((i : ℕ) → is_some (a i) ≡ true → is_among_first m k i ≡ true) → placed_of (cut m k) test a ≡ placed_of m test a
+placed-cut m k test a well first =
+    ap (λ n. placed_of n test a) (cut-restricted m k well)
+    ∙ counts-restricted m (is_among_first m k) (λ i. test i && is_some (a i))
+    ∙ how_many-agree m (λ i. is_among_first m k i && (test i && is_some (a i))) (λ i. test i && is_some (a i))
+    (λ i. same (is_among_first m k i) (test i) (is_some (a i)) (first i))
+  where
+    same : (f t p : Bool) → (p ≡ true → f ≡ true) → (f && (t && p)) ≡ (t && p)
+    same true t p within = refl
+    same false true true within = within refl
+    same false true false within = refl
+    same false false p within = refl
+
+-- in the end each student has a chain
+pub theirs-end : (p : Market) (test : ℕ → Bool) (old : List Chain) (point gap : ℕ) (r : RoundView) (chains : List Chain) (end : ℕ) → GoesOnInside p test old point gap r chains end → students_in chains ≡ students_of (cut p end)
+theirs-end p test old point gap r chains end on = on.theirs ∙ students-first p end
+
+-- and no old chain is left
+others-end : (m p : Market) (test : ℕ → Bool) (old : List Chain) (point gap : ℕ) (r : RoundView) (chains : List Chain) (end : ℕ)
+    → ChangesInside m (cut p end) test point gap → students_in old ≡ students_of m → GoesOnInside p test old point gap r chains end
+    → chains_of (outside test) chains ≡ chains_of (outside test) old
+others-end m p test old point gap r chains end changes theirs on =
+    let low : length old ≤ end + gap =
+    omega (arith, changes.in_step.end, cut-most p end, length-map old (λ (c : Chain). c.student), ap (λ (xs : List ℕ). length xs) theirs) in
+    sym (append-nil (chains_of (outside test) chains)) ∙ ap (λ cs. chains_of (outside test) chains ++ chains_of (outside test) cs) (sym (drop_all (end + gap) old low)) ∙ on.others
+
+-- the segments of those who pass and of the others are woven into those of all
+pub segments-end : (m p : Market) (test : ℕ → Bool) (old : List Chain) (point gap : ℕ) (r : RoundView) (chains : List Chain) (end : ℕ)
+    → WellFormed m → ChangesInside m (cut p end) test point gap → students_in old ≡ students_of m → IsSegmented m (logs_in old) → GoesOnInside p test old point gap r chains end
+    → IsSegmented (cut p end) (logs_in chains)
+segments-end m p test old point gap r chains end well changes theirs segmented on =
+    let n = cut p end in
+    let own = theirs-end p test old point gap r chains end on in
+    let inside : IsSegmented (restricted n test) (part_of (students_of n) test (logs_in chains)) =
+    subst (IsSegmented (restricted n test)) (sym (part-chains test chains) ∙ ap (λ is. part_of is test (logs_in chains)) own) on.segmented in
+    let rest : IsSegmented (restricted n (outside test)) (part_of (students_of n) (outside test) (logs_in chains)) =
+    subst (IsSegmented (restricted n (outside test)))
+    (ap (λ is. part_of is (outside test) (logs_in old)) (sym theirs) ∙ part-chains (outside test) old
+    ∙ ap logs_in (sym (others-end m p test old point gap r chains end changes theirs on))
+    ∙ sym (part-chains (outside test) chains) ∙ ap (λ is. part_of is (outside test) (logs_in chains)) own)
+    (rest-segmented m n test (part_of (students_of m) (outside test) (logs_in old)) well changes.outside
+    (part-segmented m (outside test) (logs_in old) well (apart-outside m test changes.apart_before) segmented)) in
+    let count : length (logs_in chains) ≡ length (students_of n) =
+    length-map chains (λ (c : Chain). c.rejections) ∙ sym (length-map chains (λ (c : Chain). c.student)) ∙ ap (λ (xs : List ℕ). length xs) own in
+    subst (IsSegmented n) (woven-parts test (students_of n) (logs_in chains) count)
+    (woven-segmented n test (part_of (students_of n) test (logs_in chains)) (part_of (students_of n) (outside test) (logs_in chains)) changes.well_formed changes.apart inside rest)
+
+-- those who pass stand at their next choices, and nobody else stands in the round
+next-end : (p : Market) (test : ℕ → Bool) (old : List Chain) (point gap : ℕ) (r : RoundView) (chains : List Chain) (end : ℕ) → GoesOnInside p test old point gap r chains end
+    → (i : ℕ) → next_of p r.ranks i ≡ next_choice (restricted (cut p end) test) (log_of test chains) i
+next-end p test old point gap r chains end on i =
+    sym (on.continues.next i)
+    ∙ ap (λ n. next_choice n (log_of test (take point old) ++ r.log) i) (entered-inside p test (has_entered p r.ranks) end on.fits.well_formed on.entered)
+    ∙ ap (λ l. next_choice (restricted (cut p end) test) l i) (sym (log-parts test point chains ∙ (λ t. log_of test (on.stays t) ++ on.log t)))
+
+-- so everybody has what the whole log gives
+pub matching-end : (m p : Market) (test : ℕ → Bool) (old : List Chain) (point gap : ℕ) (r : RoundView) (chains : List Chain) (end : ℕ) (places : Matching)
+    → WellFormed m → ChangesInside m (cut p end) test point gap → IsStudentOptimal m places → IsSegmented (cut p end) (logs_in chains) → GoesOnInside p test old point gap r chains end
+    → (i : ℕ) → either_by test (next_of p r.ranks) places i ≡ next_choice (cut p end) (joined (logs_in chains)) i
+matching-end m p test old point gap r chains end places well changes optimal segmented on i =
+    let n = cut p end in
+    elim (cases_Bool (test i)) [
+      | inl passes ↦
+          cond-true (test i) (next_of p r.ranks i) (places i) passes ∙ next-end p test old point gap r chains end on i
+          ∙ next-inside n test chains i changes.well_formed changes.apart (theirs-end p test old point gap r chains end on) segmented passes
+      | inr fails ↦
+          cond-false (test i) (next_of p r.ranks i) (places i) fails
+          ∙ optimal-outside m n test places (matching_of n (joined (logs_in chains))) well changes.well_formed changes.apart_before changes.apart changes.outside optimal
+          (settled-optimal n changes.well_formed (joined (logs_in chains)) (segments-settled n (logs_in chains) segmented)) i fails
+    ]
+
+-- of those who stand in the round, each passes and has a place
+standing-end : (p : Market) (test : ℕ → Bool) (old : List Chain) (point gap : ℕ) (r : RoundView) (chains : List Chain) (end : ℕ) (given : Matching)
+    → AreApart (cut p end) test → IsSegmented (cut p end) (logs_in chains) → GoesOnInside p test old point gap r chains end
+    → ((i : ℕ) → given i ≡ next_choice (cut p end) (joined (logs_in chains)) i)
+    → (i : ℕ) → is_some (next_of p r.ranks i) ≡ (test i && is_some (given i))
+standing-end p test old point gap r chains end given apart segmented on is i =
+    let n = cut p end in
+    ap is_some (next-end p test old point gap r chains end on i)
+    ∙ elim (cases_Bool (test i)) [
+      | inl passes ↦
+          ap is_some (next-inside n test chains i (well-cut p end on.fits.well_formed) apart (theirs-end p test old point gap r chains end on) segmented passes ∙ sym (is i))
+          ∙ ap (λ b. b && is_some (given i)) (sym passes)
+      | inr fails ↦
+          ap is_some (next-dropped (restricted-restricts n test) (log_of test chains) i fails) ∙ sym (and_left (test i) (is_some (given i)) fails)
+    ]
+
+-- the segments from a position on of those who pass
+part-end : (test : ℕ → Bool) (chains : List Chain) (students : List ℕ) (point : ℕ) → students_in chains ≡ students → joined (part_of (drop point students) test (drop point (logs_in chains))) ≡ log_of test (drop point chains)
+part-end test chains students point theirs =
+    ap joined (
+    (λ t. part_of ((ap (drop point) (sym theirs) ∙ drop-map (λ (c : Chain). c.student) point chains) t) test (drop-map (λ (c : Chain). c.rejections) point chains t))
+    ∙ part-chains test (drop point chains)
+    )
+
+-- and every proposal is counted
+pub proposals-end : (p : Market) (test : ℕ → Bool) (old : List Chain) (point gap : ℕ) (r : RoundView) (chains : List Chain) (end : ℕ) (given : Matching)
+    → AreApart (cut p end) test → point ≤ end → IsSegmented (cut p end) (logs_in chains) → GoesOnInside p test old point gap r chains end
+    → ((i : ℕ) → given i ≡ next_choice (cut p end) (joined (logs_in chains)) i)
+    → r.proposals + placed_of (cut p end) test (matching_of (cut (cut p end) point) (joined (take point (logs_in chains))))
+    ≡ length (joined (part_of (drop point (students_of (cut p end))) test (drop point (logs_in chains)))) + placed_of (cut p end) test given
+proposals-end p test old point gap r chains end given apart low segmented on is =
+    let well = on.fits.well_formed in
+    let standing : placed p (next_of p r.ranks) ≡ placed_of (cut p end) test given =
+    how_many-agree p (λ i. is_some (next_of p r.ranks i)) (λ i. test i && is_some (given i)) (standing-end p test old point gap r chains end given apart segmented on is)
+    ∙ sym (placed-cut p end test given well (λ i some. placed-first p end end (joined (logs_in chains)) i well (omega arith) (ap is_some (sym (is i)) ∙ some))) in
+    let before : placed_of (cut p end) test (matching_of (cut (cut p end) point) (joined (take point (logs_in chains)))) ≡ placed_before p test old point =
+    ap (λ n. placed_of (cut p end) test (matching_of n (joined (take point (logs_in chains))))) (cut-cut p point end low)
+    ∙ placed-cut p end test (matching_of (cut p point) (joined (take point (logs_in chains)))) well (λ i some. placed-first p point end (joined (take point (logs_in chains))) i well low some)
+    ∙ ap (λ ls. placed_of p test (matching_of (cut p point) (joined ls)))
+    (take-map (λ (c : Chain). c.rejections) point chains ∙ ap logs_in on.stays ∙ sym (take-map (λ (c : Chain). c.rejections) point old)) in
+    let log = ap (λ (l : List Rejection). length l) (part-end test chains (students_of (cut p end)) point (theirs-end p test old point gap r chains end on) ∙ on.log) in
+    omega (arith, on.counted, standing, before, log)
+
+-- A clearing whose papers change inside a region: what its settling needs, and what it comes to.
 
 -- a student before the end of papers that are cut there
 pub student-first : (p : Market) (end position i : ℕ) → position < end → slice_get (students_of p) position ≡ Some i → slice_get (students_of (cut p end)) position ≡ Some i
@@ -62,7 +217,7 @@ pub kept-segmented : (m n : Market) (test : ℕ → Bool) (old kept : List Chain
     → IsSegmented (cut n (length kept)) (logs_in kept)
 kept-segmented m n test old kept point gap changes segmented is count =
     subst (λ k. IsSegmented (cut n k) (logs_in kept)) (sym count)
-    (subst (IsSegmented (cut n point)) (sym (logs-kept point old kept is)) (segments-rewound m n point changes.before changes.within_old changes.within_new (logs_in old) segmented))
+    (subst (IsSegmented (cut n point)) (sym (ap logs_in is ∙ sym (take-map (λ (c : Chain). c.rejections) point old))) (segments-rewound m n point changes.before changes.within_old changes.within_new (logs_in old) segmented))
 
 -- the first segments stay
 pub segments-stay : (old new : List Chain) (point k : ℕ) → k ≡ point → take k new ≡ take k old → take point (logs_in new) ≡ take point (logs_in old)
@@ -107,9 +262,6 @@ module _ (p : Market) (places : List (ℕ × ℕ)) (old : List Chain) (test : �
 
   pub changed-low : point ≤ end
   changed-low = omega (arith, changes.within_new, length-students (cut p end), cut-most p end)
-
-  pub changed-gap : gap ≤ 1
-  changed-gap = changes.in_step.one_at_most
 
   pub changed-step : (position i : ℕ) → point ≤ position → position < end → slice_get (students_of p) position ≡ Some i → slice_get (students_in old) (position + gap) ≡ Some i
   changed-step position i from before here =
@@ -158,3 +310,37 @@ module _ (p : Market) (places : List (ℕ × ℕ)) (old : List Chain) (test : �
         others = come.others;
         proposals = come.proposals;
       }
+
+-- Where the students who were settled anew are all students, everybody stands in their round.
+
+-- all chains pass
+chains-all : (test : ℕ → Bool) (chains : List Chain) → ((i : ℕ) → Contains (students_in chains) i → test i ≡ true) → chains_of test chains ≡ chains
+chains-all test [] all = refl
+chains-all test (chain ∷ rest) all =
+    cond-true (test chain.student) (chain ∷ chains_of test rest) (chains_of test rest) (all chain.student (contains-head chain.student (students_in rest)))
+    ∙ ap (λ chains. chain ∷ chains) (chains-all test rest (λ i among. all i (contains-tail chain.student (students_in rest) i among)))
+
+pub stands-everybody : (m : Market) (test : ℕ → Bool) (old : List Chain) (point gap : ℕ) (r : RoundView) (chains : List Chain) (k : ℕ) → GoesOnInside m test old point gap r chains k
+    → ((i : ℕ) → Contains (students_in chains) i → test i ≡ true) → StandsAfter m chains (without_log r)
+stands-everybody m test old point gap r chains k on all = record {
+  fits = fits-without_log m r on.fits;
+  entered = λ i. on.entered i ∙ ap (λ is. is_among is i && test i) (sym on.theirs) ∙ same (is_among (students_in chains) i) (test i) (λ among. all i (Contains-from_any eqb-true i (students_in chains) among));
+  continues = subst (λ (log : List Rejection). Continues m log (without_log r)) whole (continues-without_log m r (log_of test (take point old)) on.continues);
+  no_log = refl;
+  no_proposals = refl;
+}
+  where
+    same : (among passes : Bool) → (among ≡ true → passes ≡ true) → (among && passes) ≡ among
+    same true passes all = all refl
+    same false passes all = refl
+
+    whole : log_of test (take point old) ++ r.log ≡ joined (logs_in chains)
+    whole =
+        (λ t. log_of test (sym on.stays t) ++ sym on.log t)
+        ∙ sym (log-parts test point chains)
+        ∙ ap (λ cs. joined (logs_in cs)) (chains-all test chains all)
+
+-- whoever is everybody is among those at the marked positions
+pub everybody-marked : (marks : List Bool) (students : List ℕ) → ((at : ℕ) → at < length students → get_or marks at false ≡ true) → (i : ℕ) → Contains students i → is_among (marked marks students) i ≡ true
+everybody-marked marks students all i (at, low, is) =
+    list_any-from_Contains nat_eq_equiv i (marked marks students) (marked-there marks students at i (slice_get-get_or students at i low ∙ ap Some is) (all at low))

@@ -3,13 +3,9 @@ pub mod Representation
 pub mod Rewinding
 pub mod Resumption
 pub mod Locality
-pub mod Course
-pub mod Newcomer
-pub mod Ready
 pub mod Changed
+pub mod Rejoining
 pub mod Stamped
 pub mod Placing
-pub mod Rejoining
-pub mod Renewed
 pub mod Places
 pub mod Turns

@@ -7,7 +7,7 @@ use Rattle.sc_checkpoint.specs.Chains.{logs_in, students_in, Chain}
 use Rattle.sc_engine.specs.declared.round.Round.{Round}
 use Rattle.sc_seats.specs.Roll.{RollView}
 use Rattle.sc_region.specs.Districts.{AreDistricts, DistrictsView}
-use Rattle.sc_repair.specs.Ready.{StandReady}
+use Rattle.sc_repair.specs.Rejoining.{StandReady}
 use Rattle.sc_repair.specs.Standing.{Standing, IsCertified}
 use Rattle.sc_repair.specs.declared.settlement.Settlement.TheInside.{Inside}
 

@@ -13,8 +13,7 @@ use Rattle.sc_papers.specs.declared.amendment.Refusal.{Refusal}
 use Rattle.sc_papers.specs.declared.rejection.Rejection.{Rejection}
 use Rattle.sc_region.specs.Region.{InRegion}
 use Rattle.sc_weave.specs.Weaving.{part_of}
-use Rattle.sc_repair.specs.Course.{placed_of}
-use Rattle.sc_repair.specs.Locality.{TellsRegion}
+use Rattle.sc_repair.specs.Locality.{placed_of, TellsRegion}
 use Rattle.sc_repair.specs.Rewinding.{rewind_point}
 
 -- the papers as they stand, who has which school, the rejections that led there in segments, one for

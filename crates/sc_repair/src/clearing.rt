@@ -1,4 +1,15 @@
-ghost use Rattle.std.specs.Prelude.{◌≡◌};
+ghost use Rattle.std.specs.Prelude.{◌≡◌, ◌<◌, None, length, min, take, IfOk, IfErr, OnErr, OnOk};
+ghost use Rattle.sc_papers.specs.Matching.{IsStudentOptimal};
+ghost use Rattle.sc_papers.specs.Verdict.{unless_refused, verdict, IsRefusal};
+ghost use Rattle.sc_papers.specs.declared.stamp.TheConstants.Stamp.{GREATEST};
+ghost use Rattle.sc_stamps.specs.Stamps.{IsInStep, no_stamps, stamp_of};
+ghost use Rattle.sc_stamps.specs.Record.{record_of};
+ghost use Rattle.sc_stamps.specs.Verdict.{stamped_after, stamped_verdict, GivesStamp};
+ghost use Rattle.sc_stamps.specs.declared.record.Record.TheVariants.{OfSchool, OfStudent};
+ghost use Rattle.sc_repair.specs.Stamped.{StampedStanding, stamped_papers};
+ghost use Rattle.sc_repair.specs.Rewinding.{rewind_point};
+ghost use Rattle.sc_repair.specs.Standing.{CountsRegion, IsCertified, IsOptimal, KeepsOthers, held_at, log_of};
+ghost use Rattle.sc_repair.specs.Standing.{matching_of, papers_after, place_of, proposals_from_scratch};
 
 use crate::open_refused::OpenRefused;
 use crate::opening::settle_all;
@@ -23,9 +34,6 @@ pub struct Clearing {
 }
 
 impl Model for Clearing {
-    ghost use Rattle.sc_stamps.specs.Stamps.{IsInStep};
-    ghost use Rattle.sc_repair.specs.Stamped.{StampedStanding};
-
     ghost Value = { StampedStanding };
 
     ghost view = { λ c. record { standing = c.settlement; stamps = c.stamps } };
@@ -34,18 +42,6 @@ impl Model for Clearing {
 }
 
 impl Clearing {
-    ghost use Rattle.std.specs.Prelude.{◌≡◌, ◌<◌, None, length, min, take, IfOk, IfErr, OnErr, OnOk};
-    ghost use Rattle.sc_papers.specs.Matching.{IsStudentOptimal};
-    ghost use Rattle.sc_papers.specs.Verdict.{unless_refused, verdict, IsRefusal};
-    ghost use Rattle.sc_papers.specs.declared.stamp.TheConstants.Stamp.{GREATEST};
-    ghost use Rattle.sc_stamps.specs.Record.{record_of};
-    ghost use Rattle.sc_stamps.specs.Stamps.{no_stamps, stamp_of, IsInStep};
-    ghost use Rattle.sc_stamps.specs.Verdict.{stamped_after, stamped_verdict, GivesStamp};
-    ghost use Rattle.sc_stamps.specs.declared.record.Record.TheVariants.{OfSchool, OfStudent};
-    ghost use Rattle.sc_repair.specs.Rewinding.{rewind_point};
-    ghost use Rattle.sc_repair.specs.Stamped.{stamped_papers};
-    ghost use Rattle.sc_repair.specs.Standing.{CountsRegion, IsCertified, IsOptimal, KeepsOthers, held_at, log_of, matching_of, papers_after, place_of, proposals_from_scratch};
-
     /// Settles papers that were amended before, whose records have these stamps, one for each and none greater than the
     /// number of accepted amendments: the standing assignment is their student-optimal stable matching, and the log
     /// certifies it. The only error is want of memory, which gives the papers back unchanged.

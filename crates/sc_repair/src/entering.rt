@@ -8,8 +8,8 @@ ghost use Rattle.sc_papers.specs.Restriction.{cut, IsSegmented};
 ghost use Rattle.sc_checkpoint.specs.Chains.{logs_in, students_in, with_chain};
 ghost use Rattle.sc_engine.specs.Round.{is_spent, view_of};
 ghost use Rattle.sc_engine.specs.RoundView.{next_of};
-ghost use Rattle.sc_repair.specs.Newcomer.{is_moved, IsNextToEnter, StandsAfter};
-ghost use Rattle.sc_repair.specs.Ready.{IsReady, StandReady, StandsWithNewcomer};
+ghost use Rattle.sc_repair.specs.Changed.{is_moved, IsNextToEnter, StandsAfter};
+ghost use Rattle.sc_repair.specs.Rejoining.{IsReady, StandReady, StandsWithNewcomer};
 
 use crate::places::Places;
 use sc_checkpoint::Segments;

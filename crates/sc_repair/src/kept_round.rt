@@ -8,9 +8,9 @@ ghost use Rattle.sc_engine.specs.Round.{is_spent, view_of};
 ghost use Rattle.sc_engine.specs.Leaving.{AreWithin, StandAt};
 ghost use Rattle.sc_engine.specs.RoundView.{Fits, without_log};
 ghost use Rattle.sc_repair.specs.Locality.{is_among, marked_in};
-ghost use Rattle.sc_repair.specs.Newcomer.{StandsAfter};
-ghost use Rattle.sc_repair.specs.Ready.{StandReady};
-ghost use Rattle.sc_repair.specs.Rejoining.{before_leaving, school_in, CanRejoin, HasJoined, HasLeft, HasMovedUp, HasSeats, StandBehind};
+ghost use Rattle.sc_repair.specs.Changed.{StandsAfter};
+ghost use Rattle.sc_repair.specs.Rejoining.{StandReady, before_leaving, school_in, CanRejoin, HasJoined, HasLeft};
+ghost use Rattle.sc_repair.specs.Rejoining.{HasMovedUp, HasSeats, StandBehind};
 
 use crate::region_positions::{are_all, without};
 use sc_checkpoint::Segments;

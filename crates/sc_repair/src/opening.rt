@@ -11,8 +11,8 @@ ghost use Rattle.sc_checkpoint.specs.Chains.{logs_in, students_in, with_chain};
 ghost use Rattle.sc_engine.specs.Fresh.{IsFresh};
 ghost use Rattle.sc_engine.specs.Round.{is_spent, view_of};
 ghost use Rattle.sc_engine.specs.RoundView.{has_entered, Enters, Fits};
-ghost use Rattle.sc_repair.specs.Newcomer.{StandsAfter};
-ghost use Rattle.sc_repair.specs.Ready.{HasComeIn, MayComeIn};
+ghost use Rattle.sc_repair.specs.Changed.{StandsAfter};
+ghost use Rattle.sc_repair.specs.Rejoining.{HasComeIn, MayComeIn};
 ghost use Rattle.sc_repair.specs.Resumption.{GoesOn};
 
 use crate::places::Places;

@@ -1,6 +1,7 @@
 //! The standing assignment, with how many students have each school.
 
-ghost use Rattle.std.specs.Prelude.{◌≡◌, ℕ, ◌+◌, ◌-◌, ◌^◌, ◌<◌, ◌≤◌, ◌&&◌, None, is_some, length, take, nat_eq, slice_set, get_or, if◌then◌else◌, IfOk, OnOk, OnErr};
+ghost use Rattle.std.specs.Prelude.{◌≡◌, ℕ, ◌+◌, ◌-◌, ◌^◌, ◌<◌, ◌≤◌, ◌&&◌, None, is_some, length, take, nat_eq};
+ghost use Rattle.std.specs.Prelude.{slice_set, get_or, if◌then◌else◌, IfOk, OnOk, OnErr, List};
 ghost use Rattle.sc_papers.specs.Assignment.{assigned, holders, with_place};
 ghost use Rattle.sc_papers.specs.declared.school_no.TheConstants.SchoolNo.{GREATEST as greatest_school};
 ghost use Rattle.sc_repair.specs.Places.{AreCounts};
@@ -22,9 +23,6 @@ pub(crate) struct Places {
 }
 
 impl Model for Places {
-    ghost use Rattle.std.specs.Prelude.{List, ℕ};
-    ghost use Rattle.sc_repair.specs.Places.{AreCounts};
-
     ghost Value = { List (ℕ × ℕ) };
 
     ghost view = { λ p. p.assignment };

@@ -5,11 +5,9 @@ ghost use Rattle.sc_papers.specs.Assignment.{assigned};
 ghost use Rattle.sc_checkpoint.specs.Spans.{chains_in, AreWithin};
 ghost use Rattle.sc_engine.specs.Round.{view_of};
 ghost use Rattle.sc_engine.specs.RoundView.{next_of};
-ghost use Rattle.sc_repair.specs.Course.{either_by};
-ghost use Rattle.sc_repair.specs.Locality.{is_among, marked_in};
+ghost use Rattle.sc_repair.specs.Locality.{either_by, is_among, marked_in, marked_from, renewed_from};
 ghost use Rattle.sc_repair.specs.Placing.{students_of_movers, with_moved, with_new, AreMovers};
-ghost use Rattle.sc_repair.specs.Ready.{IsReady};
-ghost use Rattle.sc_repair.specs.Renewed.{marked_from, renewed_from};
+ghost use Rattle.sc_repair.specs.Rejoining.{IsReady};
 
 use crate::part::Part;
 use crate::places::Places;

@@ -3,7 +3,7 @@
 ghost use Rattle.std.specs.Prelude.{◌≡◌, ◌↔◌, ℕ, ◌<◌, ◌≤◌, None, true, length, slice_index, Contains, IfOk, IfSome};
 ghost use Rattle.std.specs.List.Sorted.{IsStrictlyIncreasing};
 ghost use Rattle.sc_repair.specs.Rejoining.{before_leaving};
-ghost use Rattle.sc_repair.specs.Renewed.{marked_before, marked_from};
+ghost use Rattle.sc_repair.specs.Locality.{marked_before, marked_from};
 
 use sc_region::RegionPositions;
 use std::alloc::{AllocError, Global};

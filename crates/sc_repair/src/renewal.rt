@@ -2,7 +2,7 @@
 
 ghost use Rattle.std.specs.Prelude.{◌≡◌, ◌+◌, ◌≤◌, length, OnErr, OnOk};
 ghost use Rattle.sc_checkpoint.specs.Spans.{chains_in, AreWithin};
-ghost use Rattle.sc_repair.specs.Renewed.{marked_from, renewed_from};
+ghost use Rattle.sc_repair.specs.Locality.{marked_from, renewed_from};
 
 use crate::region_positions::positions_from;
 use sc_checkpoint::{Segments, Spans};

@@ -10,13 +10,10 @@ ghost use Rattle.sc_papers.specs.declared.rejection.Rejection.{Rejection};
 ghost use Rattle.sc_engine.specs.Fresh.{CanResume, IsResumed};
 ghost use Rattle.sc_engine.specs.Round.{is_spent, view_of};
 ghost use Rattle.sc_engine.specs.RoundView.{has_entered, without_log, Enters, Fits};
-ghost use Rattle.sc_repair.specs.Changed.{HaveChanged, IsResettled};
-ghost use Rattle.sc_repair.specs.Course.{GoesOnInside};
-ghost use Rattle.sc_repair.specs.Locality.{is_among, marked_in};
-ghost use Rattle.sc_repair.specs.Newcomer.{StandsAfter};
-ghost use Rattle.sc_repair.specs.Ready.{HasComeIn, MayComeIn};
-ghost use Rattle.sc_repair.specs.Rejoining.{StandsInside};
-ghost use Rattle.sc_repair.specs.Renewed.{marked_from, AreRenewed, CanBeRenewed, HaveTurns};
+ghost use Rattle.sc_repair.specs.Changed.{HaveChanged, IsResettled, StandsAfter};
+ghost use Rattle.sc_repair.specs.Locality.{GoesOnInside, is_among, marked_in, marked_from, AreRenewed, CanBeRenewed};
+ghost use Rattle.sc_repair.specs.Locality.{HaveTurns};
+ghost use Rattle.sc_repair.specs.Rejoining.{HasComeIn, MayComeIn, StandsInside};
 
 use crate::part::Part;
 use crate::places::Places;

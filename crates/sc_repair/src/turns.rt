@@ -17,8 +17,6 @@ pub(crate) struct Turns {
 }
 
 impl Model for Turns {
-    ghost use Rattle.sc_repair.specs.Turns.{TurnsOfEntry};
-
     ghost Value = { TurnsOfEntry };
 
     ghost view = { λ t. record { positions = t.positions.items; turns = t.turns.items } };
@@ -32,9 +30,6 @@ fn own_positions(alloc: Global, count: usize) -> Result<Vec<Option<usize>>, Allo
 }
 
 impl Turns {
-    ghost use Rattle.std.specs.Prelude.{◌≡◌, ◌<◌, Some, length, slice_get, IfOk, OnOk, OnErr};
-    ghost use Rattle.sc_repair.specs.Turns.{TurnsOfEntry, begun_turns, entered, finished_turns, first_turns, left, swapped, AreTurns};
-
     /// So many students who entered in the order in which they stand. The only error is want of memory.
     pub(crate) fn first(alloc: Global, count: usize) -> Result<Self, AllocError>
         ensures { IfOk result (λ turns. turns ≡ first_turns count) }

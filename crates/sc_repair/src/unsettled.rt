@@ -1,4 +1,15 @@
-ghost use Rattle.std.specs.Prelude.{◌≡◌};
+ghost use Rattle.std.specs.Prelude.{◌≡◌, ◌<◌, None, IfErr, IfOk, OnErr, OnOk};
+ghost use Rattle.sc_papers.specs.Matching.{IsStudentOptimal};
+ghost use Rattle.sc_papers.specs.Reordering.{IsReordering};
+ghost use Rattle.sc_papers.specs.Verdict.{unless_refused, verdict, IsRefusal};
+ghost use Rattle.sc_papers.specs.WellFormed.{WellFormed};
+ghost use Rattle.sc_papers.specs.declared.stamp.TheConstants.Stamp.{GREATEST};
+ghost use Rattle.sc_stamps.specs.Verdict.{StampedPapers, stamped_after, stamped_verdict, unamended};
+ghost use Rattle.sc_stamps.specs.Record.{record_of};
+ghost use Rattle.sc_stamps.specs.Stamps.{stamp_of, IsInStep};
+ghost use Rattle.sc_repair.specs.Turns.{stamped_in_turn, AreInTurn};
+ghost use Rattle.sc_repair.specs.Stamped.{stamped_papers};
+ghost use Rattle.sc_repair.specs.Standing.{matching_of, proposals_from_scratch, IsCertified};
 
 use crate::clearing::Clearing;
 use crate::entry_order::{make, position_of_leaver, put_in_order, put_last};
@@ -21,9 +32,6 @@ pub struct Unsettled {
 }
 
 impl Model for Unsettled {
-    ghost use Rattle.sc_stamps.specs.Verdict.{StampedPapers};
-    ghost use Rattle.sc_repair.specs.Turns.{stamped_in_turn, AreInTurn};
-
     ghost Value = { StampedPapers };
 
     ghost view = { λ u. stamped_in_turn u.turns.positions u.papers u.stamps };
@@ -32,18 +40,6 @@ impl Model for Unsettled {
 }
 
 impl Unsettled {
-    ghost use Rattle.std.specs.Prelude.{◌≡◌, ◌<◌, None, IfErr, IfOk, OnErr, OnOk};
-    ghost use Rattle.sc_papers.specs.Matching.{IsStudentOptimal};
-    ghost use Rattle.sc_papers.specs.Reordering.{IsReordering};
-    ghost use Rattle.sc_papers.specs.Verdict.{unless_refused, verdict, IsRefusal};
-    ghost use Rattle.sc_papers.specs.WellFormed.{WellFormed};
-    ghost use Rattle.sc_papers.specs.declared.stamp.TheConstants.Stamp.{GREATEST};
-    ghost use Rattle.sc_stamps.specs.Record.{record_of};
-    ghost use Rattle.sc_stamps.specs.Stamps.{stamp_of, IsInStep};
-    ghost use Rattle.sc_stamps.specs.Verdict.{stamped_after, stamped_verdict, unamended};
-    ghost use Rattle.sc_repair.specs.Stamped.{stamped_papers};
-    ghost use Rattle.sc_repair.specs.Standing.{matching_of, proposals_from_scratch, IsCertified};
-
     /// Papers that no amendment was accepted for: each stamp is 0. Papers are always well-formed, and this
     /// call tells its callers so. The only error is want of memory, which gives the papers back unchanged.
     pub fn new(alloc: Global, papers: Papers) -> Result<Self, OpenRefused>
@@ -106,7 +102,7 @@ impl Unsettled {
     /// The first refusal that applies to a stamped amendment, but for want of memory: that of the papers first,
     /// as `Papers::check` answers it, then `Stale` with the record's stamp where the amendment carries another
     /// one, then `Spent` where 999,999,999 amendments were accepted. It takes no memory.
-    #[tactic(auto, using(crate::proofs::StampedInTurn::stamped_verdict_in_turn))]
+    #[tactic(auto, using(crate::proofs::AmendedInTurn::stamped_verdict_in_turn))]
     pub fn check(&self, stamped: &Stamped) -> Result<(), Refusal>
         ensures { result ≡ unless_refused (stamped_verdict self.now stamped.now) }
     {
@@ -150,7 +146,7 @@ impl Unsettled {
     }
 
     /// The first refusal of the papers. It takes no memory.
-    #[tactic(auto, using(crate::proofs::StampedInTurn::verdict_in_turn))]
+    #[tactic(auto, using(crate::proofs::AmendedInTurn::verdict_in_turn))]
     fn check_rules(&self, amendment: &Amendment) -> Result<(), Refusal>
         ensures { result ≡ unless_refused (verdict self.now.papers amendment.now) }
     {

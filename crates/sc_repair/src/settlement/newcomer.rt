@@ -2,7 +2,7 @@
 
 ghost use Rattle.std.specs.Prelude.{◌≡◌, None, Some};
 ghost use Rattle.sc_papers.specs.Verdict.{verdict};
-ghost use Rattle.sc_repair.specs.Newcomer.{newcomer};
+ghost use Rattle.sc_repair.specs.Changed.{newcomer};
 ghost use Rattle.sc_repair.specs.Standing.{IsAmended};
 
 use super::Settlement;

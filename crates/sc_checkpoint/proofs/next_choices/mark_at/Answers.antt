@@ -2,8 +2,7 @@ use Rattle.std.proofs.Common.{◌≡◌, ◌==◌, ap, refl, sym, ◌∙◌, get
 use Rattle.std.proofs.lemmas.Option.{slice_get_read}
 use Rattle.sc_papers.specs.Market.{choices_of, student_at}
 use Rattle.sc_papers.proofs.Hands.{hand-is}
-use Rattle.sc_checkpoint.proofs.Marking.{rank-low, table-unlisted, table-marked}
-use Rattle.sc_checkpoint.proofs.Passing.{picked-once, picked-student}
+use Rattle.sc_checkpoint.proofs.Marking.{rank-low, table-unlisted, table-marked, picked-once, picked-student}
 use Rattle.sc_checkpoint.proofs.next_choices.mark_at.Goals as goal
 
 pub returns-in_default-choice_rank_at-clause-tabled : goal.returns-in_default-choice_rank_at-clause-tabled

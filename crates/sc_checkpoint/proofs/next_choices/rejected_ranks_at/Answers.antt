@@ -3,7 +3,7 @@ use Rattle.sc_papers.specs.Market.{student_at}
 use Rattle.sc_papers.specs.Restriction.{joined}
 use Rattle.sc_checkpoint.specs.Chains.{logs_at}
 use Rattle.sc_checkpoint.specs.Ranks.{AreTabled}
-use Rattle.sc_checkpoint.proofs.Passing.{picked-next}
+use Rattle.sc_checkpoint.proofs.Marking.{picked-next}
 use Rattle.sc_checkpoint.proofs.next_choices.rejected_ranks_at.Goals as goal
 
 pub loop-turn-preserved : goal.loop-turn-preserved

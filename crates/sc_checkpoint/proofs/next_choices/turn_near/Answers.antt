@@ -2,8 +2,7 @@ use Rattle.std.proofs.Common.{sym, ◌∙◌, get_or}
 use Rattle.sc_papers.specs.Market.{students_of}
 use Rattle.sc_papers.proofs.Choices.{one-place}
 use Rattle.sc_papers.proofs.Positions.{position-there}
-use Rattle.sc_checkpoint.proofs.Marking.{unknown-nowhere}
-use Rattle.sc_checkpoint.proofs.Passing.{picked-here, picked-student}
+use Rattle.sc_checkpoint.proofs.Marking.{unknown-nowhere, picked-here, picked-student}
 use Rattle.sc_checkpoint.proofs.Rising.{search-finds, search-lacks}
 use Rattle.sc_checkpoint.proofs.next_choices.turn_near.Goals as goal
 

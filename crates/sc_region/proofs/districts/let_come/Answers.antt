@@ -2,7 +2,7 @@ use Rattle.std.proofs.Common.{◌≡◌, ap, sym, subst, ◌∙◌, Some, Contai
 use Rattle.std.proofs.lemmas.Option.{same_Some}
 use Rattle.sc_region.specs.Districts.{listed_by, firsts_at, lists_in, new_first}
 use Rattle.sc_region.specs.Groups.{new_choices, position_of}
-use Rattle.sc_region.proofs.Choosing.{first-read}
+use Rattle.sc_region.proofs.Joining.{first-read}
 use Rattle.sc_region.proofs.Following.{listed_by-some}
 use Rattle.sc_region.proofs.districts.let_come.Goals as goal
 

@@ -1,15 +1,9 @@
-use Rattle.std.proofs.Common.{◌≡◌, ◌==◌, ℕ, ap, sym, subst, true, not, Contains, inl, inr}
-use Rattle.std.proofs.lemmas.Bool.{cases_Bool, eqb-true}
+use Rattle.std.proofs.Common.{◌==◌, ap, sym, subst, not, Contains}
+use Rattle.std.proofs.lemmas.Bool.{ne_eqb}
 use Rattle.sc_region.specs.Districts.{students_in}
 use Rattle.sc_region.proofs.Filtering.{filter-kept}
 use Rattle.sc_region.proofs.Firsts.{list-read, lists-keep}
 use Rattle.sc_region.proofs.districts.take_out.Goals as goal
-
-other-kept : (i j : ℕ) → (i ≡ j → ⊥) → not (i == j) ≡ true
-other-kept i j other = elim (cases_Bool (i == j)) [
-  | inl same ↦ absurd (other (eqb-true i j same))
-  | inr apart ↦ ap not apart
-]
 
 pub returns-clause-others : goal.returns-clause-others
 returns-clause-others c p i other =
@@ -17,4 +11,4 @@ returns-clause-others c p i other =
     let was = c.index_mut.result.now in
     let read = list-read lists c.args.school was c.requires c.index_mut.ensures.value in
     lists-keep lists c.args.school c.strike.new.list i c.requires
-    (λ among. subst (λ xs. Contains xs i) (sym c.strike.ensures) (filter-kept (λ k. not (k == c.args.student)) (students_in was.items) i (subst (λ xs. Contains xs i) (sym read) among) (other-kept i c.args.student other))) p
+    (λ among. subst (λ xs. Contains xs i) (sym c.strike.ensures) (filter-kept (λ k. not (k == c.args.student)) (students_in was.items) i (subst (λ xs. Contains xs i) (sym read) among) (ap not (ne_eqb i c.args.student other)))) p

@@ -4,8 +4,7 @@ use Rattle.sc_papers.proofs.Hands.{hand-student}
 use Rattle.sc_papers.specs.Classed.{Classed}
 use Rattle.sc_papers.specs.Market.{Market, choices_of, schools_of, student_at, students_of}
 use Rattle.sc_papers.specs.WellFormed.{WellFormed}
-use Rattle.sc_region.proofs.Choosing.{choices-some}
-use Rattle.sc_region.proofs.ChoicePositions.{choice-within, choice-told, choices-count, ArePositions}
+use Rattle.sc_region.proofs.Joining.{choices-some, choice-within, choice-told, choices-count, ArePositions}
 use Rattle.sc_region.proofs.grouping.first_position_at.Goals as goal
 
 -- the student at a position has a first choice

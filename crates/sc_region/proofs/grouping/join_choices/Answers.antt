@@ -2,7 +2,7 @@ use Rattle.std.proofs.Common.{◌≡◌, ◌<◌, refl, sym, ◌∙◌, length, 
 use Rattle.std.proofs.lemmas.List.Sums.{fold_more}
 use Rattle.sc_papers.specs.Market.{choices_of, student_at}
 use Rattle.sc_region.specs.Groups.{first_choice, joined, joined_list, position_of}
-use Rattle.sc_region.proofs.ChoicePositions.{choice-within, choice-told, choices-count}
+use Rattle.sc_region.proofs.Joining.{choice-within, choice-told, choices-count}
 use Rattle.sc_region.proofs.grouping.join_choices.Goals as goal
 
 pub loop-choice-init : goal.loop-choice-init

@@ -5,7 +5,7 @@ use Rattle.sc_papers.proofs.Hands.{has-position, student-there}
 use Rattle.sc_papers.proofs.Students.{choice-known}
 use Rattle.sc_papers.specs.Market.{choices_of, is_school}
 use Rattle.sc_region.specs.Groups.{first_choice}
-use Rattle.sc_region.proofs.Choosing.{choices-some, first-listed}
+use Rattle.sc_region.proofs.Joining.{choices-some, first-listed}
 use Rattle.sc_region.proofs.reach.first_choice.Goals as goal
 
 pub unreachable-requires : goal.unreachable-requires

@@ -12,7 +12,7 @@ use Rattle.sc_region.specs.Groups.{members_beside, position_of, start_of}
 use Rattle.sc_region.proofs.Changes.{start-known}
 use Rattle.sc_region.proofs.Joining.{position-within}
 use Rattle.sc_region.proofs.Reaching.{region-differs, region-exact, region_members}
-use Rattle.sc_region.proofs.Regrouping.{all-joined}
+use Rattle.sc_region.proofs.Having.{all-joined}
 use Rattle.sc_region.proofs.reach.region.Goals as goal
 
 allowed : (o : Option Refusal) → unless_refused o ≡ Ok tt → o ≡ None

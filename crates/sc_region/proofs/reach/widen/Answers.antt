@@ -1,7 +1,7 @@
 use Rattle.std.proofs.Common.{◌∙◌, inl, inr, refl, subst, Contains}
 use Rattle.sc_region.specs.Groups.{joined_list, widened}
 use Rattle.sc_region.proofs.Changes.{enter-may, new-known}
-use Rattle.sc_region.proofs.Choosing.{first-read}
+use Rattle.sc_region.proofs.Joining.{first-read}
 use Rattle.sc_region.proofs.reach.widen.Goals as goal
 
 pub join_list-requires-clause-known : goal.join_list-requires-clause-known

@@ -3,9 +3,9 @@ use Rattle.sc_papers.specs.Assignment.{assigned}
 use Rattle.sc_papers.specs.Restriction.{joined}
 use Rattle.sc_checkpoint.specs.Chains.{logs_in, with_chain}
 use Rattle.sc_engine.specs.Round.{view_of}
-use Rattle.sc_repair.specs.Newcomer.{EntersBy}
-use Rattle.sc_repair.proofs.Entry.{newcomer-absent, newcomer-known, newcomer-unplaced, stands-next}
-use Rattle.sc_repair.proofs.Moves.{enters-by, placed-after}
+use Rattle.sc_repair.specs.Changed.{EntersBy}
+use Rattle.sc_repair.proofs.Resumption.{newcomer-absent, newcomer-known, newcomer-unplaced, stands-next}
+use Rattle.sc_repair.proofs.Newcomer.{enters-by, placed-after}
 use Rattle.sc_repair.proofs.entering.enter.Goals as goal
 
 pub enter_one-requires-clause-student : goal.enter_one-requires-clause-student

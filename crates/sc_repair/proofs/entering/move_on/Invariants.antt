@@ -1,7 +1,7 @@
 use Rattle.std.proofs.Common.{take}
 use Rattle.sc_engine.specs.Round.{view_of}
 use Rattle.sc_engine.specs.RoundView.{next_of}
-use Rattle.sc_repair.proofs.Moves.{MovesFirst}
+use Rattle.sc_repair.proofs.Newcomer.{MovesFirst}
 use Rattle.sc_repair.proofs.entering.move_on.Given as goal
 
 abbrev pub invariant-loop-rejection : goal.invariant-loop-rejection

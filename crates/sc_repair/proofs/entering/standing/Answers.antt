@@ -2,7 +2,7 @@ use Rattle.std.proofs.Common.{◌∙◌}
 use Rattle.sc_papers.specs.Restriction.{joined}
 use Rattle.sc_checkpoint.specs.Chains.{logs_in}
 use Rattle.sc_engine.specs.Round.{view_of}
-use Rattle.sc_repair.proofs.Entry.{chains-stand, stands-resumed}
+use Rattle.sc_repair.proofs.Resumption.{chains-stand, stands-resumed}
 use Rattle.sc_repair.proofs.entering.standing.Goals as goal
 
 pub resume_near-requires : goal.resume_near-requires

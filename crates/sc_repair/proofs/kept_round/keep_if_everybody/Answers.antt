@@ -5,8 +5,8 @@ use Rattle.sc_engine.specs.Round.{view_of}
 use Rattle.sc_engine.specs.RoundView.{without_log}
 use Rattle.sc_engine.specs.declared.round.Round.{Round}
 use Rattle.sc_repair.specs.Locality.{is_among, marked_in}
-use Rattle.sc_repair.specs.Newcomer.{StandsAfter}
-use Rattle.sc_repair.proofs.Everybody.{everybody-marked}
+use Rattle.sc_repair.specs.Changed.{StandsAfter}
+use Rattle.sc_repair.proofs.Resettled.{everybody-marked}
 use Rattle.sc_repair.proofs.kept_round.keep_if_everybody.Goals as goal
 
 pub returns-clause-stands : goal.returns-clause-stands

@@ -6,8 +6,7 @@ use Rattle.sc_checkpoint.specs.Chains.{logs_in, students_in, Chain}
 use Rattle.sc_engine.specs.Round.{view_of}
 use Rattle.sc_engine.proofs.Settling.{first-apart}
 use Rattle.sc_repair.specs.Resumption.{GoesOn}
-use Rattle.sc_repair.proofs.Kept.{none-segmented}
-use Rattle.sc_repair.proofs.Resumption.{goes-on-begins, goes-on-next}
+use Rattle.sc_repair.proofs.Resumption.{none-segmented, goes-on-begins, goes-on-next}
 use Rattle.sc_repair.proofs.opening.enter_all.Goals as goal
 
 pub loop-position-init : goal.loop-position-init

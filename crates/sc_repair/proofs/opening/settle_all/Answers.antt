@@ -1,8 +1,7 @@
 use Rattle.std.proofs.Common.{[], ap, ◌∙◌}
 use Rattle.sc_papers.specs.Assignment.{assigned}
 use Rattle.sc_engine.specs.Round.{view_of}
-use Rattle.sc_repair.proofs.Entry.{stands-forgotten}
-use Rattle.sc_repair.proofs.Resumption.{next-all, proposals-all, segments-all, students-all}
+use Rattle.sc_repair.proofs.Resumption.{stands-forgotten, next-all, proposals-all, segments-all, students-all}
 use Rattle.sc_repair.proofs.opening.settle_all.Goals as goal
 
 pub returns-clause-theirs : goal.returns-clause-theirs

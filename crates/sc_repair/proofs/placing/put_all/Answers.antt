@@ -5,7 +5,7 @@ use Rattle.sc_checkpoint.specs.Chains.{students_in, Chain}
 use Rattle.sc_engine.specs.RoundView.{next_of}
 use Rattle.sc_repair.specs.Placing.{students_of_movers, with_new, AreMovers}
 use Rattle.sc_repair.proofs.GivenPlaces.{new-one}
-use Rattle.sc_repair.proofs.Picked.{picked, picked-low, picked-mover, picked-movers, picked-new, picked-next}
+use Rattle.sc_repair.proofs.Positioned.{picked, picked-low, picked-mover, picked-movers, picked-new, picked-next}
 use Rattle.sc_repair.proofs.placing.put_all.Goals as goal
 
 pub student-student-requires : goal.student-student-requires

@@ -4,7 +4,7 @@ use Rattle.sc_checkpoint.specs.Chains.{students_in}
 use Rattle.sc_engine.specs.Round.{view_of}
 use Rattle.sc_engine.specs.RoundView.{next_of}
 use Rattle.sc_repair.specs.Placing.{students_of_movers, with_new, AreMovers}
-use Rattle.sc_repair.proofs.Picked.{picked}
+use Rattle.sc_repair.proofs.Positioned.{picked}
 use Rattle.sc_repair.proofs.placing.put_all.Given as goal
 
 abbrev pub invariant-loop-position : goal.invariant-loop-position

@@ -3,9 +3,9 @@ use Rattle.std.specs.List.{remove}
 use Rattle.sc_checkpoint.specs.Chains.{replaced, Chain}
 use Rattle.sc_checkpoint.specs.Spans.{chains_in}
 use Rattle.sc_checkpoint.proofs.Replacing.{replaced-length}
-use Rattle.sc_repair.specs.Renewed.{marked_from}
+use Rattle.sc_repair.specs.Locality.{marked_from}
 use Rattle.sc_repair.proofs.Positioned.{from-low}
-use Rattle.sc_repair.proofs.Regions.{without-one}
+use Rattle.sc_repair.proofs.Renewing.{without-one}
 use Rattle.sc_repair.proofs.renewal.renew.Goals as goal
 
 pub replace-requires-clause-within : goal.replace-requires-clause-within

@@ -2,11 +2,8 @@ use Rattle.std.proofs.Common.{◌≡◌, ◌-◌, refl, sym, subst, List, length
 use Rattle.sc_checkpoint.specs.Chains.{Chain}
 use Rattle.sc_checkpoint.specs.Spans.{chains_in}
 use Rattle.sc_engine.specs.Round.{view_of}
-use Rattle.sc_repair.specs.Course.{GoesOnInside}
-use Rattle.sc_repair.specs.Locality.{is_among, marked_in}
-use Rattle.sc_repair.specs.Renewed.{renewed_from}
-use Rattle.sc_repair.proofs.Everybody.{stands-everybody}
-use Rattle.sc_repair.proofs.Resettled.{changed-differ, changed-resettled, changed-low, changed-outside, changed-segmented, changed-step, changed-theirs}
+use Rattle.sc_repair.specs.Locality.{GoesOnInside, is_among, marked_in, renewed_from}
+use Rattle.sc_repair.proofs.Resettled.{stands-everybody, changed-differ, changed-resettled, changed-low, changed-outside, changed-segmented, changed-step, changed-theirs}
 use Rattle.sc_repair.proofs.resettling.resettle.Goals as goal
 
 pub settle_region-requires-clause-given : goal.settle_region-requires-clause-given

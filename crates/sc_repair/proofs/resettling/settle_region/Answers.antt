@@ -6,11 +6,10 @@ use Rattle.sc_papers.specs.Restriction.{joined}
 use Rattle.sc_checkpoint.specs.Chains.{logs_at}
 use Rattle.sc_checkpoint.specs.NextChoices.{next_choices_after, stands, AreNextChoices}
 use Rattle.sc_engine.specs.Round.{view_of}
-use Rattle.sc_repair.specs.Course.{log_of}
-use Rattle.sc_repair.specs.Locality.{is_among, marked_in}
-use Rattle.sc_repair.proofs.Beginning.{inside-begins, stand-inside}
+use Rattle.sc_repair.specs.Locality.{log_of, is_among, marked_in}
+use Rattle.sc_repair.proofs.Course.{inside-begins, stand-inside}
 use Rattle.sc_repair.proofs.Positioned.{before-low, within-rising}
-use Rattle.sc_repair.proofs.Regions.{before-stand}
+use Rattle.sc_repair.proofs.Renewing.{before-stand}
 use Rattle.sc_repair.proofs.Resumption.{length-students}
 use Rattle.sc_repair.proofs.resettling.settle_region.Goals as goal
 use Rattle.sc_repair.proofs.resettling.settle_region.Goals.{In_ok-standings}

@@ -6,9 +6,8 @@ use Rattle.sc_checkpoint.specs.Spans.{chains_in, AreWithin}
 use Rattle.sc_checkpoint.specs.declared.span.Span.{Span}
 use Rattle.sc_checkpoint.proofs.Spanned.{none-within}
 use Rattle.sc_engine.specs.Round.{view_of}
-use Rattle.sc_repair.specs.Renewed.{marked_from}
-use Rattle.sc_repair.proofs.Regions.{are-turns}
-use Rattle.sc_repair.proofs.Renewing.{turn-absent, turn-missing, turn-next, turn-own, turns-begin, turns-end}
+use Rattle.sc_repair.specs.Locality.{marked_from}
+use Rattle.sc_repair.proofs.Renewing.{are-turns, turn-absent, turn-missing, turn-next, turn-own, turns-begin, turns-end}
 use Rattle.sc_repair.proofs.resettling.take_turns.Goals as goal
 use Rattle.sc_repair.proofs.resettling.take_turns.Goals.{After-student_at}
 

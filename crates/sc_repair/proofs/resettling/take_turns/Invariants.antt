@@ -1,8 +1,7 @@
 use Rattle.std.proofs.Common.{◌≡◌, ◌+◌, ◌-◌, false, length}
 use Rattle.sc_checkpoint.specs.Spans.{chains_in, AreWithin}
 use Rattle.sc_engine.specs.Round.{is_spent, view_of}
-use Rattle.sc_repair.specs.Locality.{is_among, marked_in}
-use Rattle.sc_repair.specs.Renewed.{marked_from}
+use Rattle.sc_repair.specs.Locality.{is_among, marked_in, marked_from}
 use Rattle.sc_repair.proofs.Renewing.{HadTurns}
 use Rattle.sc_repair.proofs.resettling.take_turns.Given as goal
 

@@ -1,6 +1,6 @@
 use Rattle.std.proofs.Common.{◌-◌, ◌^◌, ◌∙◌}
 use Rattle.sc_checkpoint.specs.Chains.{logs_in}
-use Rattle.sc_checkpoint.proofs.Joining.{count-next}
+use Rattle.sc_checkpoint.proofs.Marking.{count-next}
 use Rattle.sc_checkpoint.proofs.segments.Segments.log_len.Goals as goal
 
 pub loop-position-preserved : goal.loop-position-preserved

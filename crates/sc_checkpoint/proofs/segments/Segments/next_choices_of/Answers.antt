@@ -5,8 +5,7 @@ use Rattle.sc_papers.specs.Market.{choices_of, student_at, students_of}
 use Rattle.sc_papers.specs.Restriction.{joined}
 use Rattle.sc_papers.proofs.Hands.{hand-is}
 use Rattle.sc_checkpoint.specs.Chains.{logs_at}
-use Rattle.sc_checkpoint.proofs.Finding.{next-found, standings-more}
-use Rattle.sc_checkpoint.proofs.Passing.{picked-here}
+use Rattle.sc_checkpoint.proofs.Marking.{next-found, standings-more, picked-here}
 use Rattle.sc_checkpoint.proofs.segments.Segments.next_choices_of.Goals as goal
 
 pub loop-turn-preserved : goal.loop-turn-preserved

@@ -3,9 +3,8 @@ use Rattle.std.specs.Prelude.{slice_index}
 use Rattle.std.proofs.lemmas.List.{get_or_read}
 use Rattle.sc_region.specs.Districts.{lists_in, AreDistricts, AreWidened, DistrictsView}
 use Rattle.sc_region.specs.Groups.{schools_of_group}
-use Rattle.sc_region.proofs.Having.{all-told, held-tell, position-low}
+use Rattle.sc_region.proofs.Having.{all-told, held-tell, position-low, all-joined, all-widened}
 use Rattle.sc_region.proofs.Reaching.{all-tell, TellRegion}
-use Rattle.sc_region.proofs.Regrouping.{all-joined, all-widened}
 use Rattle.sc_region.proofs.districts.Districts.positions_among_all.Goals as goal
 
 pub few_hold_together-requires-clause-schools : goal.few_hold_together-requires-clause-schools

@@ -4,7 +4,7 @@ use Rattle.sc_region.specs.Districts.{lists_in, AreDistricts, AreWidened, Distri
 use Rattle.sc_region.specs.Groups.{start_of}
 use Rattle.sc_region.proofs.Changes.{start-known}
 use Rattle.sc_region.proofs.Joining.{position-within}
-use Rattle.sc_region.proofs.Regrouping.{groups-widened}
+use Rattle.sc_region.proofs.Having.{groups-widened}
 use Rattle.sc_region.proofs.districts.Districts.widen.Goals as goal
 
 pub returns : goal.returns

@@ -10,7 +10,7 @@ use Rattle.sc_papers.proofs.Validity.{next-among}
 use Rattle.sc_repair.specs.Representation.{standing_of}
 use Rattle.sc_repair.specs.Stamped.{StampedStanding}
 use Rattle.sc_repair.specs.Standing.{held_at, log_of}
-use Rattle.sc_repair.proofs.Held.{holders-held}
+use Rattle.sc_repair.proofs.Counts.{holders-held}
 use Rattle.sc_repair.proofs.clearing.Clearing.held.Goals as goal
 
 -- what the counts say is how many students of the papers have the school

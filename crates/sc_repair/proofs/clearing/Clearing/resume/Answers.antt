@@ -3,10 +3,9 @@ use Rattle.sc_papers.specs.Market.{students_of}
 use Rattle.sc_seats.specs.Roll.{RollView}
 use Rattle.sc_checkpoint.specs.Chains.{logs_in}
 use Rattle.sc_engine.specs.Round.{view_of}
-use Rattle.sc_repair.specs.Changed.{standing_of}
-use Rattle.sc_repair.specs.Newcomer.{StandsAfter}
+use Rattle.sc_repair.specs.Changed.{standing_of, StandsAfter}
 use Rattle.sc_repair.specs.Standing.{IsCertified}
-use Rattle.sc_repair.proofs.Kept.{certified-of}
+use Rattle.sc_repair.proofs.Resumption.{certified-of}
 use Rattle.sc_repair.proofs.clearing.Clearing.resume.Goals as goal
 
 certified : (c : goal.In-Ok) → IsCertified (standing_of c.args.papers c.in-Ok.placed.places c.in-Ok.placed.segments c.in-Ok.placed.proposals)

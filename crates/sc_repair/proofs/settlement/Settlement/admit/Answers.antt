@@ -6,11 +6,10 @@ use Rattle.sc_papers.specs.Verdict.{after, verdict}
 use Rattle.sc_checkpoint.specs.Chains.{students_in}
 use Rattle.sc_engine.specs.Round.{is_spent, view_of}
 use Rattle.sc_region.specs.Districts.{AreDistricts}
-use Rattle.sc_repair.specs.Changed.{standing_of}
-use Rattle.sc_repair.specs.Newcomer.{HasEntered, IsNextToEnter}
+use Rattle.sc_repair.specs.Changed.{standing_of, HasEntered, IsNextToEnter}
 use Rattle.sc_repair.specs.Representation.{IsKept}
 use Rattle.sc_repair.specs.Standing.{Standing, IsAmended, IsCertified}
-use Rattle.sc_repair.proofs.Admitted.{admitted, admitted-next, kept-grown, keys, same-standing, seats, unamended}
+use Rattle.sc_repair.proofs.Newcomer.{admitted, admitted-next, kept-grown, keys, same-standing, seats, unamended}
 use Rattle.sc_repair.proofs.settlement.Settlement.admit.Goals as goal
 
 pub enter_newcomer-entered-requires-clause-next : goal.enter_newcomer-entered-requires-clause-next

@@ -14,20 +14,16 @@ use Rattle.sc_engine.specs.Round.{is_spent, view_of}
 use Rattle.sc_engine.specs.RoundView.{without_log}
 use Rattle.sc_region.specs.Marks.{marked}
 use Rattle.sc_region.specs.Telling.{MarkRegion}
-use Rattle.sc_repair.specs.Changed.{standing_of, HaveChanged}
+use Rattle.sc_repair.specs.Changed.{standing_of, HaveChanged, StandsAfter}
 use Rattle.sc_repair.specs.Locality.{is_among, marked_in}
 use Rattle.sc_region.specs.Districts.{AreDistricts}
-use Rattle.sc_repair.specs.Newcomer.{StandsAfter}
 use Rattle.sc_repair.specs.Representation.{IsKept}
 use Rattle.sc_repair.specs.Rewinding.{rewind_point}
 use Rattle.sc_repair.specs.Standing.{Standing, IsAmended, IsCertified}
-use Rattle.sc_repair.proofs.Admitted.{keys, same-standing, seats, unamended}
-use Rattle.sc_repair.proofs.Changed.{in-place-changed, stood, whole-cut-of}
-use Rattle.sc_repair.proofs.InStep.{students-stay}
-use Rattle.sc_repair.proofs.LiesApart.{region-apart}
+use Rattle.sc_repair.proofs.Newcomer.{keys, same-standing, seats, unamended}
+use Rattle.sc_repair.proofs.Regional.{in-place-changed, stood, whole-cut-of, students-stay, region-apart, marks-count, settled-anew}
 use Rattle.sc_repair.proofs.Rejoining.{change, gone-some, joins-inside, marked-within, rejoined, rejoined-some, stand-still, waits-some, Change, HasGone}
 use Rattle.sc_repair.proofs.Resumption.{length-students}
-use Rattle.sc_repair.proofs.Regional.{marks-count, settled-anew}
 use Rattle.sc_repair.proofs.settlement.Settlement.change.Goals as goal
 use Rattle.sc_repair.proofs.settlement.Settlement.change.Goals.{After-students_len-end}
 

@@ -17,11 +17,9 @@ use Rattle.sc_region.specs.Districts.{AreDistricts}
 use Rattle.sc_repair.specs.Rejoining.{before_leaving, CanRejoin, HasJoined, HasLeft, StandBehind, StandsInside}
 use Rattle.sc_repair.specs.Rewinding.{rewind_point}
 use Rattle.sc_repair.specs.Standing.{Standing, IsAmended, IsCertified}
-use Rattle.sc_repair.proofs.Admitted.{keys, same-standing, seats, unamended}
-use Rattle.sc_repair.proofs.Changed.{leaver-from, stood, withdrawn, withdrawn-changed, Withdrawn}
-use Rattle.sc_repair.proofs.LiesApart.{region-apart}
+use Rattle.sc_repair.proofs.Newcomer.{keys, same-standing, seats, unamended}
+use Rattle.sc_repair.proofs.Regional.{leaver-from, stood, withdrawn, withdrawn-changed, Withdrawn, region-apart, marks-count, settled-anew}
 use Rattle.sc_repair.proofs.Rejoining.{change, gone-some, joins-withdrawn, marked-within, region-tells, rejoined, rejoined-some, room-stood, stand-at, stand-behind, waits-moved, HasGone}
-use Rattle.sc_repair.proofs.Regional.{marks-count, settled-anew}
 use Rattle.sc_repair.proofs.settlement.Settlement.withdraw.Goals as goal
 use Rattle.sc_repair.proofs.settlement.Settlement.withdraw.Goals.{After-move_student}
 

@@ -1,7 +1,7 @@
 use Rattle.std.proofs.Common.{subst}
 use Rattle.sc_stamps.specs.Stamps.{IsInStep}
 use Rattle.sc_stamps.specs.Verdict.{StampedPapers}
-use Rattle.sc_repair.proofs.StampedInTurn.{step-in_turn}
+use Rattle.sc_repair.proofs.AmendedInTurn.{step-in_turn}
 use Rattle.sc_repair.proofs.unsettled.Unsettled.accepted.Goals as goal
 
 pub returns-clause-in_step : goal.returns-clause-in_step

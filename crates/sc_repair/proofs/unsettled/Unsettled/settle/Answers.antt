@@ -2,7 +2,7 @@ use Rattle.std.proofs.Common.{subst, sym}
 use Rattle.sc_papers.specs.Market.{Market}
 use Rattle.sc_stamps.specs.Stamps.{IsInStep, Stamps}
 use Rattle.sc_repair.specs.Turns.{papers_in_turn}
-use Rattle.sc_repair.proofs.StampedInTurn.{step-in_turn}
+use Rattle.sc_repair.proofs.AmendedInTurn.{step-in_turn}
 use Rattle.sc_repair.proofs.unsettled.Unsettled.settle.Goals as goal
 
 pub resume-requires : goal.resume-requires
