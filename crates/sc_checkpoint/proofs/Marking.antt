@@ -192,15 +192,8 @@ pub table-marked : (m : Market) (students : List ℕ) (log : List Rejection) (e 
     → ((other : ℕ) → has_rank new other ≡ (has_rank old other || other == rank_of))
     → AreTabled m students log table → AreTabled m students (log ++ e ∷ []) (set table position_of new)
 table-marked m students log e table position_of rank_of old new well once student school old_at added before = record {
-  at = λ at i ranks at_student at_table rank s at_school.
-      elim (cases_eq at position_of) [
-        | inl same ↦ marked_row at i ranks at_student at_table rank s at_school same
-        | inr apart ↦ other_row at i ranks at_student at_table rank s at_school apart
-      ];
-}
-  where
-    marked_row : (at i : ℕ) (ranks : RankSet) → slice_get students at ≡ Some i → slice_get (set table position_of new) at ≡ Some ranks → (rank s : ℕ) → slice_get (choices_of m i) rank ≡ Some s → at ≡ position_of → has_rank ranks rank ≡ is_rejected (log ++ e ∷ []) i s
-    marked_row at i ranks at_student at_table rank s at_school same =
+  at = λ at i ranks at_student at_table rank s at_school. elim (cases_eq at position_of) [
+    | inl same ↦
         let written = get-set-same table position_of new (slice_get_within table position_of old old_at) in
         let is_new : ranks ≡ new = same_Some ranks new (sym at_table ∙ ap (slice_get (set table position_of new)) same ∙ written) in
         let at_position : slice_get students position_of ≡ Some i = ap (slice_get students) (sym same) ∙ at_student in
@@ -212,9 +205,9 @@ table-marked m students log e table position_of rank_of old new well once studen
         ∙ ap (λ b. b || rank == rank_of) (before.at position_of i old at_position old_at rank s at_school)
         ∙ ap (λ b. is_rejected log i s || b) (rank-of-entry m e i s rank rank_of well is_student at_school listed)
         ∙ sym (rejected-push log e i s)
-
-    other_row : (at i : ℕ) (ranks : RankSet) → slice_get students at ≡ Some i → slice_get (set table position_of new) at ≡ Some ranks → (rank s : ℕ) → slice_get (choices_of m i) rank ≡ Some s → (at ≡ position_of → ⊥) → has_rank ranks rank ≡ is_rejected (log ++ e ∷ []) i s
-    other_row at i ranks at_student at_table rank s at_school apart =
+    | inr apart ↦
         before.at at i ranks at_student (sym (get-set-other table position_of at new apart) ∙ at_table) rank s at_school
         ∙ sym (other-kept log e i s (λ same_student same_school.
         apart (once at position_of i at_student (student ∙ ap Some same_student))))
+  ];
+}

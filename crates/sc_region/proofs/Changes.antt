@@ -14,7 +14,7 @@ use Rattle.std.proofs.lemmas.List.Folds.{list_any_none}
 use Rattle.std.proofs.lemmas.Map.{lookup-insert, lookup-remove_entry, lookup-set_value, none_passes_from_lookup}
 use Rattle.std.proofs.lemmas.Option.{none-some, same_Some}
 use Rattle.sc_papers.specs.Market.{Market, choices_of, is_school, is_student, school_of, student_of}
-use Rattle.sc_papers.specs.Verdict.{after, changed_school, changed_student, objections_to_add, objections_to_close, objections_to_correct, objections_to_rerank, objections_to_withdraw, verdict, with_student, without_student}
+use Rattle.sc_papers.specs.Verdict.{after, changed_school, changed_student, first_of, objections_to_add, objections_to_close, objections_to_rerank, unknown_student, verdict, with_student, without_student}
 use Rattle.sc_papers.specs.WellFormed.{WellFormed}
 use Rattle.sc_papers.specs.declared.amendment.Amendment.{Amendment}
 use Rattle.sc_papers.specs.declared.amendment.Amendment.TheVariants.{Enter, Withdraw, Rerank, Add, Close, Correct}
@@ -80,14 +80,8 @@ is-held m i known = go (student_of m i) refl known
     go None is none = absurd (false≢true none)
     go (Some student) is some = (student, is)
 
-pub withdraw-known : (m : Market) (i : ℕ) → verdict m (Withdraw i) ≡ None → is_student m i ≡ true
-withdraw-known m i allowed = not-false (is_student m i) (refuse_if-none (not (is_student m i)) UnknownStudent (first_of-none (objections_to_withdraw m i) allowed).0)
-
-pub rerank-known : (m : Market) (i : ℕ) (choices : List ℕ) → verdict m (Rerank i choices) ≡ None → is_student m i ≡ true
-rerank-known m i choices allowed = not-false (is_student m i) (refuse_if-none (not (is_student m i)) UnknownStudent (first_of-none (objections_to_rerank m i choices) allowed).0)
-
-pub correct-known : (m : Market) (i zone : ℕ) (siblings : List ℕ) (continuing : Option ℕ) → verdict m (Correct i zone siblings continuing) ≡ None → is_student m i ≡ true
-correct-known m i zone siblings continuing allowed = not-false (is_student m i) (refuse_if-none (not (is_student m i)) UnknownStudent (first_of-none (objections_to_correct m i siblings continuing) allowed).0)
+known-named : (m : Market) (i : ℕ) (others : _) → first_of (unknown_student m i ∷ others) ≡ None → is_student m i ≡ true
+known-named m i others allowed = not-false (is_student m i) (refuse_if-none (not (is_student m i)) UnknownStudent (first_of-none (unknown_student m i ∷ others) allowed).0)
 
 pub enter-may : (m : Market) (i zone : ℕ) (siblings choices : List ℕ) (continuing : Option ℕ) → verdict m (Enter i zone siblings choices continuing) ≡ None → MayEnter m i (record { zone = zone; siblings = siblings; choices = choices; continuing = continuing })
 enter-may m i zone siblings choices continuing allowed = MayEnter-allowed m i (record { zone = zone; siblings = siblings; choices = choices; continuing = continuing }) allowed
@@ -119,7 +113,7 @@ choices-after m (Withdraw j) well allowed i known =
     ]
 choices-after m (Rerank j choices) well allowed i known =
     let change : Student → Student = λ student. record student { choices = choices } in
-    let (old, held) = is-held m j (rerank-known m j choices allowed) in
+    let (old, held) = is-held m j (known-named m j _ allowed) in
     let (student, found) = is-held (changed_student m j change) i known in
     elim (found-at j i (Some (change old)) (student_of m i) student (sym (changed m j change old held i) ∙ found)) [
       | inl (apart, before) ↦ inl (keeps m (Rerank j choices) i student student (λ leaves. apart (same_Some j i leaves)) before found refl)
@@ -133,7 +127,7 @@ choices-after m (Close t count) well allowed i known =
     inl (keeps m (Close t count) i student student (none-some i) (sym (seated-student m t _ i) ∙ found) found refl)
 choices-after m (Correct j zone siblings continuing) well allowed i known =
     let change : Student → Student = λ student. record student { zone = zone; siblings = siblings; continuing = continuing } in
-    let (old, held) = is-held m j (correct-known m j zone siblings continuing allowed) in
+    let (old, held) = is-held m j (known-named m j _ allowed) in
     let (student, found) = is-held (changed_student m j change) i known in
     elim (found-at j i (Some (change old)) (student_of m i) student (sym (changed m j change old held i) ∙ found)) [
       | inl (apart, before) ↦ inl (keeps m (Correct j zone siblings continuing) i student student (none-some i) before found refl)
@@ -158,7 +152,7 @@ new-listed m (Enter j zone siblings choices continuing) allowed i s is among =
     subst (λ k. Contains (choices_of (with_student m j new) k) s) same (subst (λ list. Contains list s) (sym (choices-told (with_student m j new) j new found)) among)
 new-listed m (Rerank j choices) allowed i s is among =
     let change : Student → Student = λ student. record student { choices = choices } in
-    let (old, held) = is-held m j (rerank-known m j choices allowed) in
+    let (old, held) = is-held m j (known-named m j _ allowed) in
     let same : j ≡ i = cc in
     let found = changed m j change old held j ∙ found-own j (Some (change old)) (student_of m j) in
     subst (λ k. Contains (choices_of (changed_student m j change) k) s) same (subst (λ list. Contains list s) (sym (choices-told (changed_student m j change) j (change old) found)) among)
@@ -175,9 +169,9 @@ new-known m _ allowed s (k, low, at) = absurd (omega (arith, low))
 -- the amended student is one of the papers or enters
 pub amended-known : (m : Market) (a : Amendment) → verdict m a ≡ None → (i : ℕ) → amended_student a ≡ Some i → (is_student m i ≡ true) ⊎ Contains (entrants a) i
 amended-known m (Enter j zone siblings choices continuing) allowed i is = let same : j ≡ i = cc in inr (0, omega arith, same)
-amended-known m (Withdraw j) allowed i is = let same : j ≡ i = cc in inl (subst (λ k. is_student m k ≡ true) same (withdraw-known m j allowed))
-amended-known m (Rerank j choices) allowed i is = let same : j ≡ i = cc in inl (subst (λ k. is_student m k ≡ true) same (rerank-known m j choices allowed))
-amended-known m (Correct j zone siblings continuing) allowed i is = let same : j ≡ i = cc in inl (subst (λ k. is_student m k ≡ true) same (correct-known m j zone siblings continuing allowed))
+amended-known m (Withdraw j) allowed i is = let same : j ≡ i = cc in inl (subst (λ k. is_student m k ≡ true) same (known-named m j _ allowed))
+amended-known m (Rerank j choices) allowed i is = let same : j ≡ i = cc in inl (subst (λ k. is_student m k ≡ true) same (known-named m j _ allowed))
+amended-known m (Correct j zone siblings continuing) allowed i is = let same : j ≡ i = cc in inl (subst (λ k. is_student m k ≡ true) same (known-named m j _ allowed))
 amended-known m _ allowed i is = absurd (none-some i is)
 
 -- who enters is amended, and is new
@@ -188,27 +182,7 @@ entrant-amended m (Enter j zone siblings choices continuing) i among = elim (con
 ]
 entrant-amended m _ i (k, low, at) = absurd (omega (arith, low))
 
--- the amended student lists the school to begin with, before or after, and it is the amended school
-pub start-listed : (m : Market) (a : Amendment) → WellFormed m → verdict m a ≡ None → (i : ℕ) → amended_student a ≡ Some i → Lists m a i (start_of m a)
-start-listed m (Enter j zone siblings choices continuing) well allowed i is =
-    inr (new-listed m (Enter j zone siblings choices continuing) allowed i (slice_index choices 0) is (Contains-get_or choices 0 0 (enter-may m j zone siblings choices continuing allowed).lists.choices_some))
-start-listed m (Withdraw j) well allowed i is =
-    let same : j ≡ i = cc in
-    subst (λ k. Lists m (Withdraw j) k (first_choice m j)) same (inl (first-listed m well j (withdraw-known m j allowed)))
-start-listed m (Rerank j choices) well allowed i is =
-    let same : j ≡ i = cc in
-    subst (λ k. Lists m (Rerank j choices) k (first_choice m j)) same (inl (first-listed m well j (rerank-known m j choices allowed)))
-start-listed m (Correct j zone siblings continuing) well allowed i is =
-    let same : j ≡ i = cc in
-    subst (λ k. Lists m (Correct j zone siblings continuing) k (first_choice m j)) same (inl (first-listed m well j (correct-known m j zone siblings continuing allowed)))
-start-listed m _ well allowed i is = absurd (none-some i is)
-
-pub start-amended : (m : Market) (a : Amendment) (s : ℕ) → amended_school a ≡ Some s → start_of m a ≡ s
-start-amended m (Add t count) s is = cc
-start-amended m (Close t count) s is = cc
-start-amended m _ s is = absurd (none-some s is)
-
--- where the amended student has old choices, it is the first of them
+-- where the amended student has old choices, the school to begin with is the first of them
 pub start-first : (m : Market) (a : Amendment) → verdict m a ≡ None → (i s : ℕ) → amended_student a ≡ Some i → Contains (choices_of m i) s → start_of m a ≡ first_choice m i
 start-first m (Enter j zone siblings choices continuing) allowed i s is listed =
     let same : j ≡ i = cc in
@@ -219,15 +193,31 @@ start-first m (Rerank j choices) allowed i s is listed = let same : j ≡ i = cc
 start-first m (Correct j zone siblings continuing) allowed i s is listed = let same : j ≡ i = cc in ap (first_choice m) same
 start-first m _ allowed i s is listed = absurd (none-some i is)
 
+-- the amended student lists the school to begin with, before or after, and it is the amended school
+pub start-listed : (m : Market) (a : Amendment) → WellFormed m → verdict m a ≡ None → (i : ℕ) → amended_student a ≡ Some i → Lists m a i (start_of m a)
+start-listed m (Enter j zone siblings choices continuing) well allowed i is =
+    inr (new-listed m (Enter j zone siblings choices continuing) allowed i (slice_index choices 0) is (Contains-get_or choices 0 0 (enter-may m j zone siblings choices continuing allowed).lists.choices_some))
+start-listed m a well allowed i is = elim (amended-known m a allowed i is) [
+  | inl known ↦
+      let listed = first-listed m well i known in
+      inl (subst (Contains (choices_of m i)) (sym (start-first m a allowed i (first_choice m i) is listed)) listed)
+  | inr (k, low, at) ↦ absurd (omega (arith, low))
+]
+
+pub start-amended : (m : Market) (a : Amendment) (s : ℕ) → amended_school a ≡ Some s → start_of m a ≡ s
+start-amended m (Add t count) s is = cc
+start-amended m (Close t count) s is = cc
+start-amended m _ s is = absurd (none-some s is)
+
 -- and it is a school of the papers
 pub start-known : (m : Market) (a : Amendment) → WellFormed m → verdict m a ≡ None → is_school m (start_of m a) ≡ true
 start-known m (Enter j zone siblings choices continuing) well allowed =
     new-known m (Enter j zone siblings choices continuing) allowed (slice_index choices 0) (Contains-get_or choices 0 0 (enter-may m j zone siblings choices continuing allowed).lists.choices_some)
-start-known m (Withdraw j) well allowed = choice-known m well j (first_choice m j) (first-listed m well j (withdraw-known m j allowed))
-start-known m (Rerank j choices) well allowed = choice-known m well j (first_choice m j) (first-listed m well j (rerank-known m j choices allowed))
+start-known m (Withdraw j) well allowed = choice-known m well j (first_choice m j) (first-listed m well j (known-named m j _ allowed))
+start-known m (Rerank j choices) well allowed = choice-known m well j (first_choice m j) (first-listed m well j (known-named m j _ allowed))
 start-known m (Add t count) well allowed = All-head (λ s. is_school m s ≡ true) t [] (unknown_in-none m (t ∷ []) (first_of-none (objections_to_add m t count) allowed).0)
 start-known m (Close t count) well allowed = All-head (λ s. is_school m s ≡ true) t [] (unknown_in-none m (t ∷ []) (first_of-none (objections_to_close m t count) allowed).0)
-start-known m (Correct j zone siblings continuing) well allowed = choice-known m well j (first_choice m j) (first-listed m well j (correct-known m j zone siblings continuing allowed))
+start-known m (Correct j zone siblings continuing) well allowed = choice-known m well j (first_choice m j) (first-listed m well j (known-named m j _ allowed))
 
 -- new choices come with an amended student
 pub new-amended : (a : Amendment) (s : ℕ) → Contains (new_choices a) s → (i : ℕ) × (amended_student a ≡ Some i)

@@ -3,7 +3,7 @@ use Rattle.std.specs.Prelude.{slice_index, if◌then◌else◌}
 use Rattle.std.proofs.lemmas.List.{get_or_read}
 use Rattle.sc_region.specs.Districts.{lists_in, DistrictsView}
 use Rattle.sc_region.specs.Groups.{first_choice, group_of, students_at, widened}
-use Rattle.sc_region.proofs.Having.{at-known, enough-tell, held-tell, listed-district, listed-student, position-listed, position-low, region-told, regrouped-widened}
+use Rattle.sc_region.proofs.Having.{at-known, enough-tell, held-tell, listed-district, listed-student, position-listed, position-low, region-told, regrouped-widened, HasDistrict}
 use Rattle.sc_region.proofs.Reaching.{TellRegion}
 use Rattle.sc_region.proofs.districts.Districts.positions_among_listed.Goals as goal
 use Rattle.sc_region.proofs.districts.Districts.positions_among_listed.Goals.{After-students_len}
