@@ -1,5 +1,7 @@
 -- Sets of ranks, kept as the bits of a number.
 use Rattle.std.proofs.Common.{◌≡◌, inl, inr, ap, sym, ◌∙◌, ℕ, ◌+◌, ◌-◌, ◌*◌, ◌%◌, ◌^◌, ◌<◌, ◌==◌, ◌||◌, arith, w32}
+use Rattle.std.proofs.lemmas.Grind.{common_steps}
+use Rattle.std.proofs.lemmas.Bool.Decides.{nat_tests}
 use lib.Count.{count_trailing_zeros}
 use Rattle.std.proofs.Math.Bool.{or-false, or-true}
 use Rattle.std.specs.Int.{bit_at, trailing_ones}
@@ -10,16 +12,7 @@ use Rattle.sc_checkpoint.specs.Ranks.{has_rank, IsFirstOutside}
 use Rattle.sc_checkpoint.specs.declared.rank_set.RankSet.{RankSet}
 
 pub set_bit : (bits rank other : ℕ) → rank < 32 → (bit_at (bit_or bits (1 * 2 ^ rank % 4294967296)) other == 1) ≡ (bit_at bits other == 1 || other == rank)
-set_bit bits rank other low =
-    elim (cases_eq other rank) [
-      | inl same ↦
-          ap (λ k. bit_at (bit_or bits (1 * 2 ^ rank % 4294967296)) k == 1) same
-          ∙ ap (λ b. b == 1) (bit_at_set_same w32 bits rank low)
-          ∙ sym (ap (λ b. bit_at bits other == 1 || b) (eq-eqb other rank same) ∙ or-true (bit_at bits other == 1))
-      | inr apart ↦
-          ap (λ b. b == 1) (bit_at_set_other w32 bits rank low other apart)
-          ∙ sym (ap (λ b. bit_at bits other == 1 || b) (ne_eqb other rank apart) ∙ or-false (bit_at bits other == 1))
-    ]
+set_bit bits rank other low = grind (arith, nat_tests, common_steps, bit_at_set_same w32 bits rank low, bit_at_set_other w32 bits rank low other)
 
 -- the number of ones at the low end is the first rank that is not in the set
 pub first_clear : (set : RankSet) (first : ℕ) → set.bits < 2 ^ 32 → first ≡ trailing_ones w32 set.bits → IsFirstOutside set first

@@ -1,7 +1,8 @@
 -- Segments at positions of the order of entry: their log, where their students stand, and a table of ranks by their entries.
 use Rattle.std.proofs.Common.{◌≡◌, ap, sym, ◌∙◌, ℕ, ◌+◌, List, [], ◌∷◌, ◌++◌, length, min, Some, take, slice_get, append-nil, arith, zero, suc, ◌<◌, get_or, map, refl, ◌≤◌, Bool, not, Option, None, find, inl, inr, ◌==◌, nat_eq, nat_lt, false, ◌&&◌, ◌||◌, set, position}
+use Rattle.std.proofs.lemmas.Bool.Decides.{nat_tests}
 use Rattle.std.proofs.lemmas.List.{length-append, take_more, length-map, map_push}
-use Rattle.std.proofs.lemmas.Grind.{flat_map-append}
+use Rattle.std.proofs.lemmas.Grind.{flat_map-append, common_steps}
 use Rattle.std.proofs.lemmas.Option.{get_or_from_slice_get, slice_get_within, none-some, same_Some, slice_get-get_or, slice_get-map}
 use Rattle.sc_papers.specs.Restriction.{joined}
 use Rattle.sc_papers.specs.declared.rejection.Rejection.{Rejection}
@@ -118,20 +119,11 @@ next-found m log i set rank within agree first =
 
 -- where there is no position, no member passes
 pub position-none : (test : ℕ → Bool) (xs : List ℕ) (k x : ℕ) → position test xs ≡ None → slice_get xs k ≡ Some x → test x ≡ false
-position-none test xs k x none here =
-    elim (cases_lt (position_or_len test xs) (length xs)) [
-      | inl low ↦ absurd (none-some (position_or_len test xs) (sym none ∙ cond-true (nat_lt (position_or_len test xs) (length xs)) (Some (position_or_len test xs)) None (lt-ltb (position_or_len test xs) (length xs) low)))
-      | inr over ↦
-          ap test (sym (get_or_from_slice_get xs k x x here))
-          ∙ fails_before_first test xs k x (omega (arith, over, slice_get_within xs k x here))
-    ]
+position-none test xs k x none here = grind (arith, nat_tests, common_steps, none, fails_before_first test xs k x, get_or_from_slice_get xs k x x here, slice_get_within xs k x here)
 
 -- an entry of another student or school
 other-entry : (e : Rejection) (i s : ℕ) → (e.student ≡ i → e.school ≡ s → ⊥) → is_of e i s ≡ false
-other-entry e i s apart =
-    false_from_ne_true (is_of e i s) (λ same.
-    let parts = and_parts (e.student == i) (e.school == s) same in
-    apart (eqb-true e.student i parts.0) (eqb-true e.school s parts.1))
+other-entry e i s apart = grind (arith, nat_tests, common_steps, apart)
 
 -- it changes nothing for this student and school
 other-kept : (log : List Rejection) (e : Rejection) (i s : ℕ) → (e.student ≡ i → e.school ≡ s → ⊥) → is_rejected (log ++ e ∷ []) i s ≡ is_rejected log i s

@@ -12,14 +12,7 @@ rising-less xs j k rising earlier low =
     omega (arith, rising j (omega (arith, earlier, low)), non_decreasing_from_sorted xs (sorted_from_strictly_increasing xs rising) (j + 1) k 0 (omega (arith, earlier)) low)
 
 pub rising-once : (xs : List ℕ) (j k : ℕ) → IsStrictlyIncreasing xs → j < length xs → k < length xs → get_or xs j 0 ≡ get_or xs k 0 → j ≡ k
-rising-once xs j k rising low_j low_k same =
-    elim (cases_lt j k) [
-      | inl before ↦ absurd (omega (arith, same, rising-less xs j k rising before low_k))
-      | inr past ↦ elim (cases_lt k j) [
-        | inl after ↦ absurd (omega (arith, same, rising-less xs k j rising after low_j))
-        | inr not_past ↦ omega (arith, past, not_past)
-      ]
-    ]
+rising-once xs j k rising low_j low_k same = grind (arith, same, low_j, low_k, rising-less xs j k rising, rising-less xs k j rising)
 
 -- what a binary search finds in them, and what it does not find
 pub rising-most : (xs : List ℕ) → IsStrictlyIncreasing xs → (i j : ℕ) → i ≤ j → j < length xs → get_or xs i 0 ≤ get_or xs j 0
@@ -33,8 +26,4 @@ search-parts xs x i rising lost = searched xs x (Err i) lost (rising-most xs ris
 
 pub search-lacks : (xs : List ℕ) (x i k : ℕ) → IsStrictlyIncreasing xs → IsBinarySearchResult (λ y. nat_cmp y x) xs (Err i) → k < length xs → get_or xs k 0 ≡ x → ⊥
 search-lacks xs x i k rising lost low is =
-    let (fits, before, after) = search-parts xs x i rising lost in
-    elim (cases_lt k i) [
-      | inl few ↦ omega (arith, before k few, is)
-      | inr past ↦ omega (arith, after k past low, is)
-    ]
+    let (fits, before, after) = search-parts xs x i rising lost in grind (arith, low, is, before k, after k)

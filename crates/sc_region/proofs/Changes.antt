@@ -1,5 +1,6 @@
 -- What an accepted amendment changes in who lists what.
 use Rattle.std.proofs.Common.{◌≡◌, ◌⊎◌, inl, inr, refl, sym, ap, subst, ◌∙◌, ℕ, nat_eq, true, false, not, List, [], ◌∷◌, ◌++◌, cond, length, Option, Some, None, Contains, is_some, arith}
+use Rattle.std.proofs.lemmas.Bool.Decides.{nat_tests}
 use Rattle.std.specs.Prelude.{slice_index}
 use Rattle.std.specs.Option.{option_map_or, IsSome}
 use Rattle.std.specs.List.{IsDistinct}
@@ -39,10 +40,7 @@ choices-told m i student found = ap (λ o. option_map_or (λ (x : Student). x.ch
 -- what is found at a key, where that of one key is another
 found-at : (j i : ℕ) (own other : Option Student) (student : Student) → cond (nat_eq j i) own other ≡ Some student
     → ((j ≡ i → ⊥) × (other ≡ Some student)) ⊎ ((j ≡ i) × (own ≡ Some student))
-found-at j i own other student found = elim (cases_Bool (nat_eq j i)) [
-  | inl same ↦ inr (eqb-true j i same, sym (cond-true (nat_eq j i) own other same) ∙ found)
-  | inr apart ↦ inl (λ one. false≢true (sym apart ∙ eq-eqb j i one), sym (cond-false (nat_eq j i) own other apart) ∙ found)
-]
+found-at j i own other student found = grind (arith, nat_tests, found)
 
 found-own : (j : ℕ) (own other : Option Student) → cond (nat_eq j j) own other ≡ own
 found-own j own other = cond-true (nat_eq j j) own other (eq-eqb j j refl)

@@ -1,5 +1,6 @@
 -- Lists of students, one for each school, one of which changes.
 use Rattle.std.proofs.Common.{◌≡◌, inl, inr, ◌<◌, ap, sym, subst, ◌∙◌, ℕ, Bool, List, [], ◌∷◌, ◌++◌, length, filter, set, get_or, get_or-set_other, get_or-set_same, Contains, Vec, Global, refl, arith}
+use Rattle.std.proofs.lemmas.Grind.{common_steps}
 use Rattle.std.proofs.lemmas.Bool.{cases_Bool, cases_eq}
 use Rattle.std.proofs.lemmas.List.{get_or-map, length-map, map-append, map-set}
 use Rattle.sc_region.specs.declared.first.First.{First}
@@ -16,10 +17,7 @@ students-push list first = map-append (λ (f : First). f.student) list (first �
 -- and of one from which a test keeps some
 pub students-filter : (p : ℕ → Bool) (list : List First) → students_in (filter (λ (first : First). p first.student) list) ≡ filter p (students_in list)
 students-filter p [] = refl
-students-filter p (first ∷ list) = elim (cases_Bool (p first.student)) [
-  | inl kept ↦ rw kept (ap (λ students. first.student ∷ students) (students-filter p list))
-  | inr dropped ↦ rw dropped (students-filter p list)
-]
+students-filter p (first ∷ list) = grind (arith, common_steps, students-filter p list)
 
 -- the list that changes, as it was
 pub list-read : (lists : List (Vec First Global)) (at : ℕ) (list : Vec First Global) → at < length lists → list ≡ get_or lists at list → students_in list.items ≡ firsts_at (lists_in lists) at

@@ -1,5 +1,6 @@
 -- Students' choices and the positions of their schools, and what joining lists does to the groups of schools.
 use Rattle.std.proofs.Common.{◌≡◌, ◌∙◌, ap, ℕ, ◌<◌, nat_eq, true, List, [], get_or, length, Option, Some, None, Contains, IfSome, is_some, sym, map, position, arith, ◌⊎◌, inl, inr, subst, ◌∷◌, take, ◌+◌, min, max, Bool}
+use Rattle.std.proofs.lemmas.Grind.{common_steps}
 use Rattle.std.proofs.lemmas.List.{get_or_read, get_or-map, length-map, get_or_default, map_push, take_more}
 use Rattle.std.specs.Option.{option_map_or}
 use Rattle.std.proofs.lemmas.Bool.{false≢true, cases_Bool, cases_eq}
@@ -41,29 +42,14 @@ first-read xs ys r some is same = let here : r ≡ get_or ys 0 r = is ∙ ap (λ
 
 -- after a move two groups are one where they were one, or where they are the two that the move makes one
 moved-same : (x y g h : ℕ) → moved (min x y) (max x y) g ≡ moved (min x y) (max x y) h → (g ≡ h) ⊎ (((g ≡ x) × (h ≡ y)) ⊎ ((g ≡ y) × (h ≡ x)))
-moved-same x y g h same = elim (cases_eq g h) [
-  | inl one ↦ inl one
-  | inr apart ↦ elim (cases_eq g x) [
-    | inl first ↦ inr (inl (first, second x y g h same apart first))
-    | inr other ↦ inr (inr (swapped x y g h same apart other))
-  ]
-]
-  where
-    second : (x y g h : ℕ) → moved (min x y) (max x y) g ≡ moved (min x y) (max x y) h → (g ≡ h → ⊥) → g ≡ x → h ≡ y
-    second x y g h same apart first = grind (arith, nat_tests)
-
-    swapped : (x y g h : ℕ) → moved (min x y) (max x y) g ≡ moved (min x y) (max x y) h → (g ≡ h → ⊥) → (g ≡ x → ⊥) → (g ≡ y) × (h ≡ x)
-    swapped x y g h same apart other = (grind (arith, nat_tests), grind (arith, nat_tests))
+moved-same x y g h same = grind (arith, nat_tests, same)
 
 moved-joins : (x y : ℕ) → moved (min x y) (max x y) x ≡ moved (min x y) (max x y) y
 moved-joins x y = grind (arith, nat_tests)
 
 -- a position that a search finds
 pub position-is : (test : ℕ → Bool) (xs : List ℕ) (p : ℕ) → position test xs ≡ Some p → position_or_len test xs ≡ p
-position-is test xs p found = elim (cases_Bool (nat_lt (position_or_len test xs) (length xs))) [
-  | inl within ↦ let same : Some (position_or_len test xs) ≡ Some p = rw within at found in cc
-  | inr past ↦ let none : None ≡ Some p = rw past at found in cc
-]
+position-is test xs p found = grind (arith, nat_tests, common_steps, found)
 
 -- a school of the papers has a position among them
 pub position-within : (m : Market) (s : ℕ) → is_school m s ≡ true → (position_of m s < length (schools_of m)) × (get_or (schools_of m) (position_of m s) s ≡ s)

@@ -1,5 +1,6 @@
 -- Trees of parents: roots, a shorter way to a root, and two trees made one.
 use Rattle.std.proofs.Common.{◌≡◌, inl, inr, refl, sym, ap, subst, ◌∙◌, ℕ, zero, suc, ◌+◌, ◌<◌, ◌≤◌, ◌==◌, Bool, true, false, List, [], ◌∷◌, length, map, min, max, cond, set, length-set, arith}
+use Rattle.std.proofs.lemmas.Bool.Decides.{nat_tests}
 use Rattle.std.specs.Prelude.{slice_index}
 use Rattle.std.specs.List.{range_with_len}
 use Rattle.std.proofs.lemmas.Bool.{cases_Bool, cases_eq, cases_lt, cond-true, cond-false, eqb-true, eq-eqb, ne_eqb}
@@ -101,10 +102,7 @@ linked-roots parents low kept lost order within kept_idle lost_idle =
     lost_moves = ap (moved kept lost) (root-fixed parents low lost lost_idle) ∙ cond-true (lost == lost) kept lost (eq-eqb lost lost refl)
 
     kept_stays : moved kept lost kept ≡ kept
-    kept_stays = elim (cases_Bool (kept == lost)) [
-      | inl same ↦ cond-true (kept == lost) kept kept same
-      | inr other ↦ cond-false (kept == lost) kept kept other
-    ]
+    kept_stays = grind (arith, nat_tests)
 
 -- the roots as a list
 pub length_roots : (parents : List ℕ) → length (roots_of parents) ≡ length parents
@@ -165,10 +163,7 @@ start-is : (count k : ℕ) → k < count → slice_index (range_with_len 0 count
 start-is count k within = omega (arith, get_or-range_with_len 0 count k 0 within)
 
 pub start_low : (count : ℕ) → AreParents (range_with_len 0 count)
-start_low count k = elim (cases_lt k count) [
-  | inl within ↦ omega (arith, start-is count k within)
-  | inr past ↦ omega (arith, get_or_past (range_with_len 0 count) k 0 (omega (arith, past, length-range_with_len 0 count)))
-]
+start_low count k = grind (arith, start-is count k, get_or_past (range_with_len 0 count) k 0, length-range_with_len 0 count)
 
 pub roots_start : (count : ℕ) → roots_of (range_with_len 0 count) ≡ range_with_len 0 count
 unfolding roots_of
@@ -199,12 +194,7 @@ flat-more parents now at z low flat within is = record {
     parent = flat.from at (omega arith)
 
     root : slice_index now (slice_index now at) ≡ root_of parents at
-    root = elim (cases_lt (slice_index parents at) at) [
-      | inl before ↦ ap (slice_index now) parent ∙ flat.below (slice_index parents at) before ∙ sym (root-parent parents low at)
-      | inr own ↦
-          let fixed : slice_index parents at ≡ at = omega (arith, low at, own) in
-          ap (slice_index now) parent ∙ ap (slice_index now) fixed ∙ parent ∙ fixed ∙ sym (root-fixed parents low at fixed)
-    ]
+    root = grind (arith, parent, low at, flat.below (slice_index parents at), root-parent parents low at, root-fixed parents low at)
 
 pub flat_all : (parents now : List ℕ) (bound : ℕ) → AreFlatBelow parents now bound → length parents ≤ bound → now ≡ roots_of parents
 unfolding roots_of
@@ -268,11 +258,7 @@ length-joined groups a b = length-map groups (moved (min (slice_index groups a) 
 -- to join a group to itself changes nothing
 moved-nowhere : (k : ℕ) (groups : List ℕ) → map (moved k k) groups ≡ groups
 moved-nowhere k [] = refl
-moved-nowhere k (g ∷ groups) = λ t. own (g == k) (λ same. eqb-true g k same) t ∷ moved-nowhere k groups t
-  where
-    own : (b : Bool) → (b ≡ true → g ≡ k) → cond b k g ≡ g
-    own true same = sym (same refl)
-    own false same = refl
+moved-nowhere k (g ∷ groups) = let own : moved k k g ≡ g = grind (arith, nat_tests) in λ t. own t ∷ moved-nowhere k groups t
 
 pub joined-nothing : (groups : List ℕ) (a b : ℕ) → slice_index groups a ≡ slice_index groups b → joined groups a b ≡ groups
 unfolding joined

@@ -1,5 +1,7 @@
 -- The counts of an assignment, pair by pair.
 use Rattle.std.proofs.Common.{◌≡◌, ℕ, ◌+◌, ◌-◌, ◌<◌, ◌≤◌, ◌==◌, cond, false, List, [], ◌∷◌, ◌++◌, None, Some, slice_get, length, get_or, take, set, refl, ◌∙◌, ap, sym, arith, inl, inr, nat_eq, Bool, true, not, ◌&&◌, Contains}
+use Rattle.std.proofs.lemmas.Grind.{common_steps}
+use Rattle.std.proofs.lemmas.Bool.Decides.{nat_tests}
 use Rattle.std.proofs.lemmas.Bool.{cases_Bool, cond-false, cond-true, eq-eqb, eqb-false, eqb-true}
 use Rattle.std.proofs.lemmas.List.{get_or-set_other, get_or-set_same, length-set}
 use Rattle.std.proofs.lemmas.List.Sums.{count_by-le-length, sum_by_push, sum_by-cons}
@@ -29,12 +31,7 @@ one_of t s = cond (t == s) 1 0
 pub recounted : (f g : ℕ → ℕ) (counts : List ℕ) (t n : ℕ) → AreCountsBy f counts → t ≤ GREATEST → n ≡ g t → ((s : ℕ) → (t == s) ≡ false → g s ≡ f s) → AreCountsBy g (set counts t n)
 recounted f g counts t n are low here others = record {
   long = omega (arith, are.long, length-set counts t n);
-  each = λ s within. elim (cases_Bool (t == s)) [
-    | inl same ↦
-        let at : t ≡ s = eqb-true t s same in
-        ap (λ (k : ℕ). get_or (set counts t n) k 0) (sym at) ∙ get_or-set_same counts t n 0 (omega (arith, are.long, low)) ∙ here ∙ ap g at
-    | inr other ↦ get_or-set_other counts t s n 0 (λ same. eqb-false t s other (sym same)) ∙ are.each s within ∙ sym (others s other)
-  ];
+  each = λ s within. grind (arith, nat_tests, within, here, others s, are.each s, are.long, low, get_or-set_same counts t n 0, get_or-set_other counts t s n 0);
 }
 
 -- one more at a school
@@ -57,12 +54,7 @@ counted-alike f g counts are alike = record { long = are.long; each = λ s low. 
 
 -- one less, where there was one
 pub less-one : (f : ℕ → ℕ) (t : ℕ) → 0 < f t → (s : ℕ) → (f s - one_of t s) + one_of t s ≡ f s
-less-one f t some s = elim (cases_Bool (t == s)) [
-  | inl same ↦
-      let at : f t ≡ f s = ap f (eqb-true t s same) in
-      omega (arith, some, at, cond-true {A = ℕ} (t == s) 1 0 same)
-  | inr other ↦ omega (arith, cond-false {A = ℕ} (t == s) 1 0 other)
-]
+less-one f t some s = grind (arith, nat_tests, some)
 
 -- whether a student counts for a school
 pub holding-some : (a : Matching) (i t s : ℕ) → a i ≡ Some t → holding a s i ≡ one_of t s

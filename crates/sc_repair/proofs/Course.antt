@@ -1,9 +1,10 @@
 -- A settling of the students who pass, from a point on: their chains, how it begins, and one student after the other.
 use Rattle.std.proofs.Common.{◌≡◌, refl, ap, sym, ◌∙◌, ℕ, zero, suc, Bool, true, false, cond, List, [], ◌∷◌, ◌++◌, take, drop, append-nil, Some, None, slice_get, subst, add-zero, inl, inr, ◌+◌, ◌==◌, not, ◌&&◌, ◌||◌, length, filter, append_assoc, arith, nat_eq, Contains, is_some}
+use Rattle.std.proofs.lemmas.Bool.Decides.{nat_tests}
 use Rattle.std.proofs.lemmas.Bool.{cond-true, cond-false, cases_Bool, eqb-true, and_from, and_left, and_right, or_right, false≢true}
 use Rattle.std.proofs.lemmas.List.{map-append, take-append-drop, drop-append-le, length-append, take-append-le, take_more, drop_all, take-map, take-take}
 use Rattle.std.proofs.lemmas.List.Elements.{filter-append, All-contains_itself, All-filter, All-map, All-take, All-weaker, filter_passes}
-use Rattle.std.proofs.lemmas.Grind.{flat_map-append}
+use Rattle.std.proofs.lemmas.Grind.{flat_map-append, common_steps}
 use Rattle.std.proofs.lemmas.Option.{none-some, same_Some, slice_get-map, slice_get_within, get_or_from_slice_get}
 use Rattle.sc_papers.specs.Restriction.{joined, restricted, entries_of, AreApart, IsSegmented, cut, outside, is_among_first}
 use Rattle.sc_papers.specs.declared.rejection.Rejection.{Rejection}
@@ -134,11 +135,7 @@ part-inside m test chains well apart theirs segmented =
 -- to restrict twice is to restrict by both tests
 filter-twice : {X : Type 0} (p q : X → Bool) (xs : List X) → filter q (filter p xs) ≡ filter (λ x. p x && q x) xs
 filter-twice p q [] = refl
-filter-twice {X = X} p q (x ∷ xs) = go (p x) (filter p xs) (filter (λ x. p x && q x) xs) (filter-twice p q xs)
-  where
-    go : (b : Bool) (first both : List X) → filter q first ≡ both → filter q (cond b (x ∷ first) first) ≡ cond (b && q x) (x ∷ both) both
-    go true first both same = ap (λ xs. cond (q x) (x ∷ xs) xs) same
-    go false first both same = same
+filter-twice p q (x ∷ xs) = grind (arith, common_steps, filter-twice p q xs)
 
 restricted-twice : (m : Market) (p q : ℕ → Bool) → restricted (restricted m p) q ≡ restricted m (λ i. p i && q i)
 unfolding restricted
@@ -153,21 +150,10 @@ entered-inside m test entered k well is =
 
 -- the papers of those who pass stay the same, where the next student fails
 entered-fails : (first : Bool) (test : ℕ → Bool) (i j : ℕ) → test i ≡ false → ((first || j == i) && test j) ≡ (first && test j)
-entered-fails true test i j fails = refl
-entered-fails false test i j fails =
-    elim (cases_Bool (j == i)) [
-      | inl same ↦ and_right (j == i) (test j) (ap test (eqb-true j i same) ∙ fails)
-      | inr apart ↦ and_left (j == i) (test j) apart
-    ]
+entered-fails first test i j fails = grind (arith, nat_tests, common_steps, fails)
 
 entered-passes : (first : Bool) (test : ℕ → Bool) (i j : ℕ) → test i ≡ true → ((first && test j) || j == i) ≡ ((first || j == i) && test j)
-entered-passes first test i j passes =
-    elim (cases_Bool (j == i)) [
-      | inl same ↦
-          or_right (first && test j) (j == i) same
-          ∙ sym (and_from (first || j == i) (test j) (or_right first (j == i) same) (ap test (eqb-true j i same) ∙ passes))
-      | inr apart ↦ rw apart (or-false (first && test j) ∙ ap (λ b. b && test j) (sym (or-false first)))
-    ]
+entered-passes first test i j passes = grind (arith, nat_tests, common_steps, passes)
 
 -- one more who passes is counted
 passing-next : (test : ℕ → Bool) (students : List ℕ) (k i : ℕ) (b : Bool) → slice_get students k ≡ Some i → test i ≡ b → passing test (k + 1) students ≡ passing test k students + cond b 1 0

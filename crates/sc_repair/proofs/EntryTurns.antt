@@ -80,16 +80,10 @@ AreTurns-swapped t a b low high are turn p = (there, back)
 
 -- a position that is left is another one
 unless-some : (gone q p : ℕ) → unless_at gone q ≡ Some p → (q ≡ p) × (q ≡ gone → ⊥)
-unless-some gone q p is = elim (cases_Bool (q == gone)) [
-  | inl same ↦ absurd (none-some p (sym (λ t. cond (same t) None (Some q)) ∙ is))
-  | inr other ↦ (same_Some q p (sym (λ t. cond (other t) None (Some q)) ∙ is), λ same. false≢true (sym other ∙ eq-eqb q gone same))
-]
+unless-some gone q p is = (grind (arith, nat_tests, is), λ same. grind (arith, nat_tests, is, same))
 
 pub unless-other : (gone p : ℕ) → (p ≡ gone → ⊥) → unless_at gone p ≡ Some p
-unless-other gone p apart = elim (cases_Bool (p == gone)) [
-  | inl same ↦ absurd (apart (eqb-true p gone same))
-  | inr other ↦ (λ t. cond (other t) None (Some p))
-]
+unless-other gone p apart = grind (arith, nat_tests, apart)
 
 pub AreTurns-left : (t : TurnsOfEntry) → AreTurns t → AreTurns (left t)
 AreTurns-left t are turn p = (there, back)

@@ -149,10 +149,7 @@ remove-seam [] y ys = refl
 remove-seam (x ∷ xs) y ys = ap (λ rest. x ∷ rest) (remove-seam xs y ys)
 
 unless-there : {X : Type 0} (xs : List X) (p : ℕ) → at xs (unless_at (length xs) p) ≡ slice_get xs p
-unless-there xs p = elim (cases_Bool (p == length xs)) [
-  | inl last ↦ (λ t. at xs (cond (last t) None (Some p))) ∙ sym (slice_get_past xs p (omega (arith, eqb-true p (length xs) last)))
-  | inr other ↦ (λ t. at xs (cond (other t) None (Some p)))
-]
+unless-there xs p = grind (arith, nat_tests, slice_get_past xs p)
 
 in_turn-unless : {X : Type 0} (places : List (Option ℕ)) (xs : List X) → in_turn (map (option_and_then (unless_at (length xs))) places) xs ≡ in_turn places xs
 in_turn-unless [] xs = refl

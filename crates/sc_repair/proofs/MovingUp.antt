@@ -1,25 +1,16 @@
 -- Positions of which one is gone, so that whoever stands behind moves up.
 use Rattle.std.proofs.Common.{◌≡◌, ◌↔◌, ◌⊎◌, inl, inr, ap, sym, subst, ◌∙◌, ℕ, ◌+◌, ◌<◌, nat_lt, List, [], ◌∷◌, ◌++◌, length, take, get_or, Contains, arith}
+use Rattle.std.proofs.lemmas.Bool.Decides.{nat_tests}
 use Rattle.std.proofs.lemmas.Bool.{cases_Bool, cond-false, cond-true, ltb-false, ltb-true}
 use Rattle.std.proofs.lemmas.List.Elements.{Contains-append_left, Contains-push, Contains-push_cases}
 use Rattle.sc_engine.proofs.Leaving.{earlier, earlier-or_latest, latest}
 use Rattle.sc_repair.specs.Rejoining.{before_leaving}
 
--- where one stood, from where they stand
-stood : (gone p : ℕ) → ((p < gone) × (before_leaving gone p ≡ p)) ⊎ ((before_leaving gone p ≡ p + 1) × (gone < p + 1))
-stood gone p = elim (cases_Bool (nat_lt p gone)) [
-  | inl below ↦ inl (ltb-true p gone below, cond-true (nat_lt p gone) p (p + 1) below)
-  | inr behind ↦ inr (cond-false (nat_lt p gone) p (p + 1) behind, omega (arith, ltb-false p gone behind))
-]
-
 one-stood : (gone p q : ℕ) → before_leaving gone p ≡ before_leaving gone q → p ≡ q
-one-stood gone p q same = elim (stood gone p) [
-  | inl (below, here) ↦ elim (stood gone q) [ inl (low, there) ↦ omega (arith, here, there, same) | inr (there, past) ↦ omega (arith, here, there, same, below, past) ]
-  | inr (here, behind) ↦ elim (stood gone q) [ inl (low, there) ↦ omega (arith, here, there, same, behind, low) | inr (there, past) ↦ omega (arith, here, there, same) ]
-]
+one-stood gone p q same = grind (arith, nat_tests, same)
 
 none-stood : (gone p : ℕ) → gone ≡ before_leaving gone p → ⊥
-none-stood gone p same = elim (stood gone p) [ inl (below, here) ↦ omega (arith, same, here, below) | inr (here, behind) ↦ omega (arith, same, here, behind) ]
+none-stood gone p same = grind (arith, nat_tests, same)
 
 -- the first of some positions, moved up
 abbrev pub AreMovedUp : ℕ → List ℕ → List ℕ → Type 0

@@ -1,5 +1,7 @@
 -- Whom a newcomer's chain moves on, and where everybody stands after it.
 use Rattle.std.proofs.Common.{◌≡◌, inl, inr, refl, ap, sym, subst, ◌∙◌, ℕ, nat_eq, ◌==◌, Bool, true, false, not, ◌&&◌, ◌||◌, cond, List, [], ◌∷◌, ◌++◌, Option, Some, None, find, is_some, append_assoc, append-nil, ◌+◌, length, take, drop, Contains, count_by, arith, Err, Ok, IfSome}
+use Rattle.std.proofs.lemmas.Grind.{common_steps}
+use Rattle.std.proofs.lemmas.Bool.Decides.{nat_tests}
 use Rattle.std.proofs.Math.Bool.{or-false}
 use Rattle.std.proofs.lemmas.Bool.{cases_Bool, cond-true, cond-false, eqb-false, eqb-true, or_left, or_parts, not_from_true, not-false, and_left, eq-eqb, false_from_ne_true, or_right}
 use Rattle.std.proofs.lemmas.List.Folds.{list_any-append}
@@ -54,13 +56,7 @@ next-unmoved m log (e ∷ chain) i unmoved =
 -- whoever has no choice left has none later
 none-weaker : (p q : ℕ → Bool) (xs : List ℕ) → ((x : ℕ) → p x ≡ false → q x ≡ false) → find p xs ≡ None → find q xs ≡ None
 none-weaker p q [] weaker none = refl
-none-weaker p q (x ∷ xs) weaker none =
-    elim (cases_Bool (p x)) [
-      | inl passes ↦ absurd (none-some x (sym none ∙ cond-true (p x) (Some x) (find p xs) passes))
-      | inr fails ↦
-          cond-false (q x) (Some x) (find q xs) (weaker x fails)
-          ∙ none-weaker p q xs weaker (sym (cond-false (p x) (Some x) (find p xs) fails) ∙ none)
-    ]
+none-weaker p q (x ∷ xs) weaker none = grind (arith, common_steps, none, weaker x, none-weaker p q xs weaker)
 
 next-exhausted : (m : Market) (log chain : List Rejection) (i : ℕ) → next_choice m log i ≡ None → next_choice m (log ++ chain) i ≡ None
 unfolding next_choice
@@ -73,11 +69,7 @@ next-exhausted m log chain i none =
 
 -- where a student stands of whom some have entered
 next-entered : (m : Market) (entered : ℕ → Bool) (log : List Rejection) (i : ℕ) → next_choice (restricted m entered) log i ≡ cond (entered i) (next_choice m log i) None
-next-entered m entered log i =
-    elim (cases_Bool (entered i)) [
-      | inl in_round ↦ next-kept (restricted-restricts m entered) log i in_round ∙ sym (cond-true (entered i) (next_choice m log i) None in_round)
-      | inr out ↦ next-dropped (restricted-restricts m entered) log i out ∙ sym (cond-false (entered i) (next_choice m log i) None out)
-    ]
+next-entered m entered log i = grind (arith, common_steps, next-kept (restricted-restricts m entered) log i, next-dropped (restricted-restricts m entered) log i)
 
 module _ (m : Market) (log chain : List Rejection) (old new : RoundView) (i made : ℕ) (continues : Continues m log old) (no_log : old.log ≡ []) (enters : EntersBy m old new i chain made) where
   next-before : (j : ℕ) → next_of m old.ranks j ≡ cond (has_entered m old.ranks j) (next_choice m log j) None
@@ -101,13 +93,7 @@ module _ (m : Market) (log chain : List Rejection) (old new : RoundView) (i made
 
   -- and whoever stood nowhere stays without
   pub others-exhausted : (j : ℕ) → nat_eq j i ≡ false → next_of m old.ranks j ≡ None → next_of m new.ranks j ≡ None
-  others-exhausted j other none =
-      next-after j ∙ ap (λ b. cond b (next_choice m (log ++ chain) j) None) (entered-before j other)
-      ∙ go (has_entered m old.ranks j) (sym (next-before j) ∙ none)
-    where
-      go : (b : Bool) → cond b (next_choice m log j) None ≡ None → cond b (next_choice m (log ++ chain) j) None ≡ None
-      go true exhausted = next-exhausted m log chain j exhausted
-      go false out = refl
+  others-exhausted j other none = grind (arith, common_steps, none, next-after j, next-before j, entered-before j other, next-exhausted m log chain j)
 
   -- so everybody has the school at which they stand: the newcomer is given theirs, and those who are moved get theirs
   pub places-follow : (before given after : List (ℕ × ℕ))
@@ -115,28 +101,7 @@ module _ (m : Market) (log chain : List Rejection) (old new : RoundView) (i made
       → ((j : ℕ) → assigned given j ≡ cond (nat_eq j i) (next_of m new.ranks i) (assigned before j))
       → ((j : ℕ) → assigned after j ≡ cond (is_moved chain j && is_some (assigned given j)) (next_of m new.ranks j) (assigned given j))
       → (j : ℕ) → assigned after j ≡ next_of m new.ranks j
-  places-follow before given after stood gave moved j =
-      moved j ∙ elim (cases_Bool (nat_eq j i)) [
-        | inl own ↦
-            let has : assigned given j ≡ next_of m new.ranks j =
-            gave j ∙ cond-true (nat_eq j i) (next_of m new.ranks i) (assigned before j) own ∙ ap (next_of m new.ranks) (sym (eqb-true j i own)) in
-            either (is_moved chain j && is_some (assigned given j)) (next_of m new.ranks j) (assigned given j) has
-        | inr other ↦
-            let has : assigned given j ≡ next_of m old.ranks j =
-            gave j ∙ cond-false (nat_eq j i) (next_of m new.ranks i) (assigned before j) other ∙ stood j in
-            by_case (is_moved chain j) (assigned given j) (next_of m new.ranks j)
-            (λ unmoved. has ∙ sym (others-unmoved j other unmoved))
-            (λ none. sym (others-exhausted j other (sym has ∙ none)))
-      ]
-    where
-      either : (b : Bool) (goes has : Option ℕ) → has ≡ goes → cond b goes has ≡ goes
-      either true goes has is = refl
-      either false goes has is = is
-
-      by_case : (named : Bool) (has goes : Option ℕ) → (named ≡ false → has ≡ goes) → (has ≡ None → None ≡ goes) → cond (named && is_some has) goes has ≡ goes
-      by_case true None goes kept none = none refl
-      by_case true (Some s) goes kept none = refl
-      by_case false has goes kept none = kept refl
+  places-follow before given after stood gave moved j = grind (arith, nat_tests, common_steps, stood j, gave j, moved j, others-unmoved j, others-exhausted j)
 
 -- the places as the loop over the chain moves their students
 abbrev pub MovesFirst : (ℕ → Option ℕ) → List Rejection → List (ℕ × ℕ) → List (ℕ × ℕ) → Type 0
@@ -162,14 +127,8 @@ placed-after m log old middle new i before given after continues no_log enters f
 -- a count falls into those who pass another test and those who do not
 count-parts : (test p : ℕ → Bool) (xs : List ℕ) → count_by p xs ≡ count_by (λ i. test i && p i) xs + count_by (λ i. not (test i) && p i) xs
 count-parts test p xs =
-    sum-agree (λ i. cond (p i) 1 0) (λ i. cond (test i && p i) 1 0 + cond (not (test i) && p i) 1 0) xs (λ i among. go (test i) (p i))
+    sum-agree (λ i. cond (p i) 1 0) (λ i. cond (test i && p i) 1 0 + cond (not (test i) && p i) 1 0) xs (λ i among. grind (arith, common_steps))
     ∙ sum-add (λ i. cond (test i && p i) 1 0) (λ i. cond (not (test i) && p i) 1 0) xs
-  where
-    go : (inside passes : Bool) → ◌≡◌ {A = ℕ} (cond passes 1 0) (cond (inside && passes) 1 0 + cond (not inside && passes) 1 0)
-    go true true = refl
-    go true false = refl
-    go false true = refl
-    go false false = refl
 
 how_many-parts : (m : Market) (test p : ℕ → Bool) → how_many m p ≡ how_many m (λ i. test i && p i) + how_many m (λ i. outside test i && p i)
 unfolding how_many
@@ -296,11 +255,7 @@ module _ (m n : Market) (a : Amendment) (i : ℕ) (chains : List Chain) (before 
         ∙ sym (sound.matching j)
 
     same-placed : (test : ℕ → Bool) → TellsRegion m a test → (j : ℕ) → (not (test j) && is_some (gave j)) ≡ (not (test j) && is_some (assigned given j))
-    same-placed test tells j =
-        elim (cases_Bool (test j)) [
-          | inl inside ↦ and_left (not (test j)) (is_some (gave j)) (ap not inside) ∙ sym (and_left (not (test j)) (is_some (assigned given j)) (ap not inside))
-          | inr out ↦ ap (λ o. not (test j) && is_some o) (gave-before j ∙ sym (same-outside test tells j out))
-        ]
+    same-placed test tells j = grind (arith, common_steps, gave-before j, same-outside test tells j)
 
     -- of the segments from the newcomer's on, theirs is the only one
     own-segment : (test : ℕ → Bool) → test i ≡ true → joined (part_of (drop (length m.students) (students_of n)) test (drop (length m.students) (logs_in new))) ≡ chain

@@ -1,5 +1,7 @@
 -- The region of an amendment: it lies apart, the students stand in step, and what a standing is after the amendment.
 use Rattle.std.proofs.Common.{◌≡◌, inl, inr, refl, ap, sym, subst, ◌∙◌, ℕ, ◌+◌, ◌-◌, nat_eq, Bool, true, false, cond, not, List, [], ◌∷◌, ◌++◌, Contains, filter, append-nil, add-one, add-zero, ◌⊎◌, zero, suc, ◌≤◌, ◌<◌, length, Some, None, slice_get, arith, ◌↔◌, Ok, IsTrue, is_some, take}
+use Rattle.std.proofs.lemmas.Grind.{common_steps}
+use Rattle.std.proofs.lemmas.Bool.Decides.{nat_tests}
 use Rattle.std.specs.Map.{lookup, remove_entry, set_value, keys_of}
 use Rattle.std.specs.Option.{option_map_or}
 use Rattle.std.proofs.lemmas.Bool.{cases_Bool, cond-true, cond-false, eqb-true, false≢true, true≢false, false_from_ne_true}
@@ -59,35 +61,14 @@ region-apart_after m a test tells = record {
 -- the students outside are the same after one who passes is removed, changed or put at the end
 pub others-removed : {X : Type 0} (test : ℕ → Bool) (i : ℕ) (es : List (ℕ × X)) → test i ≡ true → filter (λ e. outside test e.0) (remove_entry (nat_eq i) es) ≡ filter (λ e. outside test e.0) es
 others-removed test i [] passes = refl
-others-removed test i (e ∷ es) passes =
-    elim (cases_Bool (nat_eq i e.0)) [
-      | inl same ↦
-          ap (filter (λ e. outside test e.0)) (cond-true (nat_eq i e.0) es (e ∷ remove_entry (nat_eq i) es) same)
-          ∙ sym (cond-false (not (test e.0)) (e ∷ filter (λ e. outside test e.0) es) (filter (λ e. outside test e.0) es) (ap not (ap test (sym (eqb-true i e.0 same)) ∙ passes)))
-      | inr apart ↦
-          ap (filter (λ e. outside test e.0)) (cond-false (nat_eq i e.0) es (e ∷ remove_entry (nat_eq i) es) apart)
-          ∙ ap (λ fs. cond (not (test e.0)) (e ∷ fs) fs) (others-removed test i es passes)
-    ]
+others-removed test i (e ∷ es) passes = grind (arith, nat_tests, common_steps, passes, others-removed test i es passes)
 
 others-changed : {X : Type 0} (test : ℕ → Bool) (i : ℕ) (es : List (ℕ × X)) (w : X) → test i ≡ true → filter (λ e. outside test e.0) (set_value (nat_eq i) es w) ≡ filter (λ e. outside test e.0) es
 others-changed test i [] w passes = refl
-others-changed test i (e ∷ es) w passes =
-    elim (cases_Bool (nat_eq i e.0)) [
-      | inl same ↦
-          let fails : not (test e.0) ≡ false = ap not (ap test (sym (eqb-true i e.0 same)) ∙ passes) in
-          ap (filter (λ e. outside test e.0)) (cond-true (nat_eq i e.0) ((e.0, w) ∷ es) (e ∷ set_value (nat_eq i) es w) same)
-          ∙ cond-false (not (test e.0)) ((e.0, w) ∷ filter (λ e. outside test e.0) es) (filter (λ e. outside test e.0) es) fails
-          ∙ sym (cond-false (not (test e.0)) (e ∷ filter (λ e. outside test e.0) es) (filter (λ e. outside test e.0) es) fails)
-      | inr apart ↦
-          ap (filter (λ e. outside test e.0)) (cond-false (nat_eq i e.0) ((e.0, w) ∷ es) (e ∷ set_value (nat_eq i) es w) apart)
-          ∙ ap (λ fs. cond (not (test e.0)) (e ∷ fs) fs) (others-changed test i es w passes)
-    ]
+others-changed test i (e ∷ es) w passes = grind (arith, nat_tests, common_steps, passes, others-changed test i es w passes)
 
 others-entered : {X : Type 0} (test : ℕ → Bool) (i : ℕ) (es : List (ℕ × X)) (w : X) → test i ≡ true → filter (λ e. outside test e.0) (es ++ (i, w) ∷ []) ≡ filter (λ e. outside test e.0) es
-others-entered test i es w passes =
-    filter-append (λ e. outside test e.0) es ((i, w) ∷ [])
-    ∙ ap (λ fs. filter (λ e. outside test e.0) es ++ fs) (cond-false (not (test i)) ((i, w) ∷ []) [] (ap not passes))
-    ∙ append-nil (filter (λ e. outside test e.0) es)
+others-entered test i es w passes = grind (arith, common_steps, passes, filter-append (λ e. outside test e.0) es ((i, w) ∷ []))
 
 -- an amended student passes: the schools stay
 pub alike-entries : (m n : Market) (test : ℕ → Bool) → n.seed ≡ m.seed → n.schools ≡ m.schools
@@ -183,12 +164,7 @@ left-each i (e ∷ es) position j low here =
 
 removed-or_same : {X : Type 0} (i : ℕ) (es : List (ℕ × X)) → (remove_entry (nat_eq i) es ≡ es) ⊎ (length es ≡ length (remove_entry (nat_eq i) es) + 1)
 removed-or_same i [] = inl refl
-removed-or_same {X = X} i (e ∷ es) = go (nat_eq i e.0) (remove_entry (nat_eq i) es) (removed-or_same i es)
-  where
-    go : (b : Bool) (rest : List (ℕ × X)) → (rest ≡ es) ⊎ (length es ≡ length rest + 1) → (cond b es (e ∷ rest) ≡ e ∷ es) ⊎ (length (e ∷ es) ≡ length (cond b es (e ∷ rest)) + 1)
-    go true rest before = inr (omega arith)
-    go false rest (inl same) = inl (ap (λ fs. e ∷ fs) same)
-    go false rest (inr less) = inr (omega (arith, less))
+removed-or_same i (e ∷ es) = grind (arith, common_steps, removed-or_same i es)
 
 first-is : (i : ℕ) (xs : List ℕ) (position j : ℕ) → position ≡ position_or_len (nat_eq i) xs → slice_get xs position ≡ Some j → i ≡ j
 first-is i xs position j at here =

@@ -1,6 +1,7 @@
 -- All up to an end of the order of entry have had their turn: the segments are those of the papers cut there, and every
 -- place and proposal is told.
 use Rattle.std.proofs.Common.{◌≡◌, inl, inr, refl, ap, sym, subst, ◌∙◌, ℕ, ◌+◌, ◌≤◌, ◌==◌, Bool, true, false, ◌&&◌, List, ◌++◌, length, take, drop, is_some, append-nil, arith, add-one, add-zero, ◌⊎◌, zero, suc, ◌-◌, ◌<◌, nat_eq, Option, Some, None, slice_get, get_or, [], ◌∷◌, Contains}
+use Rattle.std.proofs.lemmas.Grind.{common_steps}
 use Rattle.std.specs.List.{list_any, IsDistinct}
 use Rattle.std.proofs.lemmas.Bool.{cases_Bool, cond-true, cond-false, and_left, false≢true, or_left, eqb-true}
 use Rattle.std.proofs.lemmas.List.{drop_all, drop-map, length-map, length-take, take-map, take-append-drop, take-take}
@@ -70,14 +71,7 @@ placed-cut : (m : Market) (k : ℕ) (test : ℕ → Bool) (a : Matching) → Wel
 placed-cut m k test a well first =
     ap (λ n. placed_of n test a) (cut-restricted m k well)
     ∙ counts-restricted m (is_among_first m k) (λ i. test i && is_some (a i))
-    ∙ how_many-agree m (λ i. is_among_first m k i && (test i && is_some (a i))) (λ i. test i && is_some (a i))
-    (λ i. same (is_among_first m k i) (test i) (is_some (a i)) (first i))
-  where
-    same : (f t p : Bool) → (p ≡ true → f ≡ true) → (f && (t && p)) ≡ (t && p)
-    same true t p within = refl
-    same false true true within = within refl
-    same false true false within = refl
-    same false false p within = refl
+    ∙ how_many-agree m (λ i. is_among_first m k i && (test i && is_some (a i))) (λ i. test i && is_some (a i)) (λ i. grind (arith, common_steps, first i))
 
 -- in the end each student has a chain
 pub theirs-end : (p : Market) (test : ℕ → Bool) (old : List Chain) (point gap : ℕ) (r : RoundView) (chains : List Chain) (end : ℕ) → GoesOnInside p test old point gap r chains end → students_in chains ≡ students_of (cut p end)

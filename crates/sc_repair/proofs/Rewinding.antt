@@ -1,5 +1,6 @@
 -- The papers after an amendment are alike up to the rewind point, so the segments before it still stand.
 use Rattle.std.proofs.Common.{◌≡◌, inl, inr, refl, ap, sym, subst, ◌∙◌, ℕ, zero, suc, ◌+◌, ◌<◌, ◌≤◌, ◌==◌, nat_eq, Bool, true, false, List, [], ◌∷◌, length, Option, Some, None, Contains, take, is_some, ◌-◌, arith}
+use Rattle.std.proofs.lemmas.Bool.Decides.{nat_tests}
 use Rattle.std.specs.Prelude.{get_or, position}
 use Rattle.std.specs.List.{list_any}
 use Rattle.std.specs.Map.{lookup, set_value}
@@ -33,11 +34,7 @@ use Rattle.sc_repair.specs.Rewinding.{first_to_list, lists, position_of, rewind_
 lookup-take : {X : Type 0} (k i : ℕ) (es : List (ℕ × X)) (x : X) → lookup (nat_eq i) (take k es) ≡ Some x → lookup (nat_eq i) es ≡ Some x
 lookup-take zero i es x found = absurd (none-some x found)
 lookup-take (suc k) i [] x found = found
-lookup-take (suc k) i (e ∷ es) x found =
-    elim (cases_Bool (nat_eq i e.0)) [
-      | inl same ↦ rw same (rw same at found)
-      | inr apart ↦ rw apart (lookup-take k i es x (rw apart at found))
-    ]
+lookup-take (suc k) i (e ∷ es) x found = grind (arith, common_steps, found, lookup-take k i es x)
 
 -- who lists a school in papers that are cut lists it in the whole papers
 pub listed-cut : (m : Market) (k i s : ℕ) → Contains (choices_of (cut m k) i) s → Contains (choices_of m i) s
@@ -97,13 +94,8 @@ unlisted-before m s i listed =
 pub field-kept : (f : School → ℕ) (s t : ℕ) (v w : School) (es : List (ℕ × School)) → lookup (nat_eq s) es ≡ Some v → (nat_eq s t ≡ true → f w ≡ f v)
     → option_map_or f (lookup (nat_eq t) (set_value (nat_eq s) es w)) 0 ≡ option_map_or f (lookup (nat_eq t) es) 0
 field-kept f s t v w es found kept =
-    ap (λ o. option_map_or f o 0) (lookup-set_value nat_eq_equiv (nat_eq s) (λ x y same. ap (λ n. nat_eq n y) (eqb-true s x same)) t w es (ap is_some found))
-    ∙ elim (cases_Bool (nat_eq s t)) [
-      | inl same ↦
-          let there : lookup (nat_eq t) es ≡ Some v = ap (λ n. lookup (nat_eq n) es) (sym (eqb-true s t same)) ∙ found in
-          ap (λ o. option_map_or f o 0) (cond-true (nat_eq s t) (Some w) (lookup (nat_eq t) es) same) ∙ kept same ∙ ap (λ o. option_map_or f o 0) (sym there)
-      | inr apart ↦ ap (λ o. option_map_or f o 0) (cond-false (nat_eq s t) (Some w) (lookup (nat_eq t) es) apart)
-    ]
+    let set = lookup-set_value nat_eq_equiv (nat_eq s) (λ x y same. ap (λ n. nat_eq n y) (eqb-true s x same)) t w es (ap is_some found) in
+    grind (arith, nat_tests, common_steps, set, found, kept)
 
 -- papers with other seats for a school
 alike-seated : (m : Market) (s seats : ℕ) → AlikeUpTo (first_to_list m s) m (with_seats m s seats)
@@ -162,10 +154,7 @@ segments_after m a = segments-rewound m (after m a) (rewind_point m a) (alike-af
 -- a list with a position for a test is one that has a member that passes it
 some-listed : (test : ℕ → Bool) (xs : List ℕ) → is_some (position test xs) ≡ list_any test xs
 some-listed test [] = refl
-some-listed test (x ∷ xs) = elim (cases_Bool (test x)) [
-  | inl passes ↦ grind (arith, passes, common_steps)
-  | inr fails ↦ grind (arith, fails, some-listed test xs, common_steps)
-]
+some-listed test (x ∷ xs) = grind (arith, some-listed test xs, common_steps)
 
 -- a student who has a rank for a school lists it
 pub rank-lists : (m : Market) (s i : ℕ) → is_some (position (λ t. t == s) (choices_of m i)) ≡ lists m s i
