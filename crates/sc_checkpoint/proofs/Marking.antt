@@ -163,16 +163,7 @@ rank-low m i s rank limits found = omega (arith, (position-Some (λ t. t == s) (
 -- of the choices of the entry's student, the one at the entry's rank is the entry's school
 rank-of-entry : (m : Market) (e : Rejection) (i s rank rank_of : ℕ) → WellFormed m → e.student ≡ i → slice_get (choices_of m i) rank ≡ Some s → slice_get (choices_of m i) rank_of ≡ Some e.school → (rank == rank_of) ≡ is_of e i s
 rank-of-entry m e i s rank rank_of well is_student at_school listed =
-    elim (cases_eq rank rank_of) [
-      | inl same ↦
-          let is_school : e.school ≡ s = same_Some e.school s (sym listed ∙ ap (slice_get (choices_of m i)) (sym same) ∙ at_school) in
-          eq-eqb rank rank_of same
-          ∙ sym (ap (λ b. b && e.school == s) (eq-eqb e.student i is_student) ∙ eq-eqb e.school s is_school)
-      | inr apart ↦
-          ne_eqb rank rank_of apart
-          ∙ sym (other-entry e i s (λ same_student same_school.
-          apart (one-place (choices_of m i) rank rank_of s (choices-differ m well i) at_school (listed ∙ ap Some same_school))))
-    ]
+    grind (arith, nat_tests, common_steps, is_student, at_school, listed, one-place (choices_of m i) rank rank_of s (choices-differ m well i) at_school)
 
 -- an entry put into the table
 pub table-marked : (m : Market) (students : List ℕ) (log : List Rejection) (e : Rejection) (table : List RankSet) (position_of rank_of : ℕ) (old new : RankSet)

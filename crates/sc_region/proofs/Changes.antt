@@ -240,10 +240,7 @@ entrants-differ m (Enter j zone siblings choices continuing) allowed students kn
     (list_any_none (nat_eq j) students (All-weaker (Contains students) (λ i. nat_eq j i ≡ false) (λ i among. apart i (known i among)) students (All-contains_itself students)))
   where
     apart : (i : ℕ) → is_student m i ≡ true → nat_eq j i ≡ false
-    apart i held = elim (cases_Bool (nat_eq j i)) [
-      | inl same ↦ absurd (false≢true (sym (ap is_some (enter-may m j zone siblings choices continuing allowed).new) ∙ ap (is_student m) (eqb-true j i same) ∙ held))
-      | inr other ↦ other
-    ]
+    apart i held = grind (arith, nat_tests, held, ap is_some (enter-may m j zone siblings choices continuing allowed).new)
 entrants-differ m _ allowed students known differ = rw (append-nil students) differ
 
 -- where nobody enters, there is no entrant

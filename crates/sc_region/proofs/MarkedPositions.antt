@@ -10,10 +10,7 @@ use Rattle.sc_region.specs.Marks.{marks_at, AreRisingBelow}
 
 -- a marked position is that of one of those who have marks
 pub below-marked : (marks : List Bool) (p : ℕ) → get_or marks p false ≡ true → p < length marks
-below-marked marks p its = elim (cases_lt p (length marks)) [
-  | inl low ↦ low
-  | inr over ↦ absurd (false≢true (sym (get_or_past marks p false over) ∙ its))
-]
+below-marked marks p its = grind (arith, its, get_or_past marks p false)
 
 -- the mark at a position that comes within the count
 mark-at : (count : ℕ) (positions : List ℕ) (p : ℕ) → p < count → get_or (marks_at count positions) p false ≡ list_any (nat_eq p) positions

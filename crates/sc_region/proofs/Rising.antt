@@ -22,10 +22,7 @@ search-contains xs x r found rising =
     by (Err i) none = (λ fails. absurd (false≢true fails), λ (k, low, here). absurd (apart k low (sym (get_or_default xs k x 0 low) ∙ here)))
       where
         apart : (k : ℕ) → k < length xs → get_or xs k 0 ≡ x → ⊥
-        apart k low here = elim (cases_lt k i) [
-          | inl before ↦ omega (arith, none.1 k before)
-          | inr from ↦ omega (arith, none.2 k from low)
-        ]
+        apart k low here = grind (arith, none.1 k, none.2 k, low, here)
 
 turned : (x y : ℕ) → nat_eq x y ≡ nat_eq y x
 turned x y = grind (arith, nat_tests)

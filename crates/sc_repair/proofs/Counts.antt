@@ -115,10 +115,7 @@ held-more m well e es s among none =
     omega (arith, more, without, same, here, nothing)
   where
     others : (j : ℕ) → (has (assigned (e ∷ es)) s j && not (j == e.0)) ≡ (has (assigned es) s j && not (j == e.0))
-    others j = elim (cases_Bool (j == e.0)) [
-      | inl is ↦ rw is (and-false _ ∙ sym (and-false _))
-      | inr other ↦ rw other refl
-    ]
+    others j = grind (arith, nat_tests, common_steps)
 
     here : ◌≡◌ {A = ℕ} (cond (has (assigned (e ∷ es)) s e.0) 1 0) (one_of e.1 s)
     here = rw (nat_eq_equiv.refl e.0) refl

@@ -166,11 +166,7 @@ next-passing : (test : ℕ → Bool) (students : List ℕ) (k i : ℕ) → slice
 next-passing test [] k i here passes = absurd (none-some i here)
 next-passing test (x ∷ xs) zero i here passes =
     ap (λ ys. slice_get ys 0) (cond-true (test x) (x ∷ filter test xs) (filter test xs) (ap test (same_Some x i here) ∙ passes)) ∙ here
-next-passing test (x ∷ xs) (suc k) i here passes = go (test x) (filter test (take k xs)) (filter test xs) (next-passing test xs k i here passes)
-  where
-    go : (b : Bool) (first all : List ℕ) → slice_get all (length first) ≡ Some i → slice_get (cond b (x ∷ all) all) (length (cond b (x ∷ first) first)) ≡ Some i
-    go true first all is = is
-    go false first all is = is
+next-passing test (x ∷ xs) (suc k) i here passes = grind (arith, common_steps, next-passing test xs k i here passes)
 
 -- where the next student fails, the papers of those who pass stay the same
 papers-same : (m : Market) (test : ℕ → Bool) (k i : ℕ) → slice_get (students_of m) k ≡ Some i → test i ≡ false → restricted (cut m (k + 1)) test ≡ restricted (cut m k) test

@@ -1,5 +1,6 @@
 -- Items in order of turn, and what becomes of them where items change places, are put last, go, or are replaced.
 use Rattle.std.proofs.Common.{◌≡◌, refl, sym, ap, subst, ◌∙◌, ℕ, zero, suc, ◌+◌, ◌<◌, ◌≤◌, ◌==◌, cond, List, [], ◌∷◌, ◌++◌, length, map, take, drop, remove, slice_get, slice_set, get_or, swap, Option, Some, None, IsPermutation, inl, inr, arith}
+use Rattle.std.proofs.lemmas.Grind.{common_steps}
 use Rattle.std.specs.List.{cons_option}
 use Rattle.std.specs.Option.{option_and_then, option_map}
 use Rattle.std.proofs.lemmas.Bool.{cases_Bool, eqb-true}
@@ -8,7 +9,7 @@ use Rattle.std.proofs.Math.Seq.{set-append_seam}
 use Rattle.std.proofs.lemmas.List.Edits.{length-swap}
 use Rattle.std.proofs.lemmas.List.Elements.{filter_map-append}
 use Rattle.std.proofs.lemmas.List.Sorted.{IsPermutation-cons, IsPermutation-middle, IsPermutation-refl, IsPermutation-sym, IsPermutation-to_front, IsPermutation-trans}
-use Rattle.std.proofs.lemmas.Option.{get_or_from_slice_get, none-some, same_Some, slice_get-get_or, slice_get_past, slice_get_within}
+use Rattle.std.proofs.lemmas.Option.{gets, slice_get_cases, get_or_from_slice_get, none-some, same_Some, slice_get-get_or, slice_get_past, slice_get_within}
 use Rattle.indexmap.proofs.ReorderLemmas.{exchange-twice, exchange-within, get_or-swap}
 use Rattle.sc_checkpoint.proofs.Replacing.{get-set-other, get-set-same}
 use Rattle.sc_repair.specs.Turns.{exchanged, in_turn, unless_at}
@@ -212,14 +213,7 @@ in_turn-permutes {X = X} places xs each = go (length xs) xs refl each
 pub in_turn-length : {X Y : Type 0} (places : List (Option ℕ)) (xs : List X) (ys : List Y) → length xs ≡ length ys → length (in_turn places xs) ≡ length (in_turn places ys)
 in_turn-length [] xs ys same = refl
 in_turn-length (None ∷ places) xs ys same = in_turn-length places xs ys same
-in_turn-length {X = X} {Y = Y} (Some p ∷ places) xs ys same = go (slice_get xs p) (slice_get ys p) refl refl (in_turn-length places xs ys same)
-  where
-    go : (x : Option X) (y : Option Y) → slice_get xs p ≡ x → slice_get ys p ≡ y → length (in_turn places xs) ≡ length (in_turn places ys)
-        → length (cons_option x (in_turn places xs)) ≡ length (cons_option y (in_turn places ys))
-    go None None first second rest = rest
-    go (Some x) (Some y) first second rest = ap suc rest
-    go None (Some y) first second rest = absurd (omega (arith, same, slice_get_none xs p first, slice_get_within ys p y second))
-    go (Some x) None first second rest = absurd (omega (arith, same, slice_get_none ys p second, slice_get_within xs p x first))
+in_turn-length (Some p ∷ places) xs ys same = grind (arith, common_steps, gets, same, in_turn-length places xs ys same, slice_get_cases xs p, slice_get_cases ys p)
 
 pub earlier-same : {X Y : Type 0} (places : List (Option ℕ)) (turn : ℕ) (xs : List X) (ys : List Y) → length xs ≡ length ys → earlier places turn xs ≡ earlier places turn ys
 earlier-same places turn xs ys same = in_turn-length (take turn places) xs ys same

@@ -57,19 +57,10 @@ rising-same (x ∷ xs) (y ∷ ys) up down there back =
 
 -- parts of rising numbers rise
 rising-take : (n : ℕ) (xs : List ℕ) → n ≤ length xs → IsStrictlyIncreasing xs → IsStrictlyIncreasing (take n xs)
-rising-take n xs fits rising k low =
-    let few = length-take-le n xs fits in
-    omega (arith, get_or-take n xs k 0 (omega (arith, low, few)), get_or-take n xs (k + 1) 0 (omega (arith, low, few)), rising k (omega (arith, low, few, fits)))
+rising-take n xs fits rising k low = grind (arith, low, fits, get_or-take n xs k 0, get_or-take n xs (k + 1) 0, rising k, length-take-le n xs fits)
 
 rising-drop : (n : ℕ) (xs : List ℕ) → IsStrictlyIncreasing xs → IsStrictlyIncreasing (drop n xs)
-rising-drop n xs rising k low =
-    let far : n + (k + 1) ≡ n + k + 1 = omega arith in
-    omega (
-      arith,
-      get_or-drop n xs k 0,
-      get_or-drop n xs (k + 1) 0 ∙ ap (λ at. get_or xs at 0) far,
-      rising (n + k) (omega (arith, low, length-drop n xs)),
-    )
+rising-drop n xs rising k low = grind (arith, low, get_or-drop n xs k 0, get_or-drop n xs (k + 1) 0, rising (n + k), length-drop n xs)
 
 pub within-rising : (marks : List Bool) (from count : ℕ) → IsStrictlyIncreasing (marked_within marks from count)
 within-rising marks from count = IsStrictlyIncreasing-filter (λ p. get_or marks p false) (range_with_len from count) (range-rising from count)

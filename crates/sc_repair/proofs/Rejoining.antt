@@ -1,5 +1,6 @@
 -- The round in which everybody stands: the students of a region leave it, the papers change, and they come back.
 use Rattle.std.proofs.Common.{◌≡◌, ◌↔◌, inl, inr, refl, ap, sym, subst, ◌∙◌, ℕ, ◌<◌, ◌≤◌, nat_eq, nat_lt, ◌==◌, ◌+◌, ◌⊎◌, Bool, true, false, ◌&&◌, List, [], ◌++◌, length, take, Option, None, Some, Contains, IfSome, IsTrue, is_some, position, slice_get, slice_index_or, remove, arith}
+use Rattle.std.proofs.lemmas.Grind.{common_steps}
 use Rattle.std.specs.Option.{IsSomeAnd, option_map_or}
 use Rattle.std.proofs.lemmas.Bool.{cases_Bool, cond-false, cond-true, eq-eqb, eqb-true, false≢true, ltb-false, ltb-true}
 use Rattle.std.proofs.Math.Bool.{and-false, and-true}
@@ -247,12 +248,7 @@ rejoined m n test old new places given r other r' theirs_old theirs_new same_out
 }
   where
     all-entered : (i : ℕ) → has_entered n r'.ranks i ≡ is_among (students_of n) i
-    all-entered i = elim (cases_Bool (test i)) [
-      | inl passes ↦
-          ap is_some (takes.taken i passes) ∙ inside.entered i passes
-      | inr fails ↦
-          ap is_some (takes.others i fails) ∙ waits.entered i fails ∙ waits.stood.entered i ∙ ap (λ (is : List ℕ). is_among is i) theirs_old ∙ same_outside i fails
-    ]
+    all-entered i = grind (arith, common_steps, theirs_old, takes.taken i, inside.entered i, takes.others i, waits.entered i, waits.stood.entered i, same_outside i)
 
     everybody : entered_papers n r'.ranks ≡ n
     everybody = restricted-all n (has_entered n r'.ranks) (λ i among. all-entered i ∙ any-among (students_of n) i among)

@@ -68,25 +68,13 @@ first-without point gap chains fits =
 -- a chain that is renewed further back changes none of the first
 first-same : (point gap k : ℕ) (chains : List Chain) (chain : Chain) → point ≤ length chains → point ≤ k → take k (without point gap (set chains (k + gap) chain)) ≡ take k (without point gap chains)
 first-same point gap k chains chain fits from =
-    let long : point ≤ length (set chains (k + gap) chain) = omega (arith, fits, length-set chains (k + gap) chain) in
-    get-ext (take k (without point gap (set chains (k + gap) chain))) (take k (without point gap chains)) (λ p.
-    elim (cases_lt p k) [
-      | inl low ↦
-          get-take k (without point gap (set chains (k + gap) chain)) p low
-          ∙ elim (cases_lt p point) [
-            | inl before ↦
-                without-low point gap (set chains (k + gap) chain) p long before
-                ∙ get-set-other chains (k + gap) p chain (λ same. omega (arith, same, before, from))
-                ∙ sym (without-low point gap chains p fits before)
-            | inr past ↦
-                without-high point gap (set chains (k + gap) chain) p long past
-                ∙ get-set-other chains (k + gap) (p + gap) chain (λ same. omega (arith, same, low))
-                ∙ sym (without-high point gap chains p fits past)
-          ]
-          ∙ sym (get-take k (without point gap chains) p low)
-      | inr past ↦ slice_get_past (take k (without point gap (set chains (k + gap) chain))) p (omega (arith, past, length-take k (without point gap (set chains (k + gap) chain))))
-          ∙ sym (slice_get_past (take k (without point gap chains)) p (omega (arith, past, length-take k (without point gap chains))))
-    ])
+    let changed = set chains (k + gap) chain in
+    let long : point ≤ length changed = omega (arith, fits, length-set chains (k + gap) chain) in
+    let old = without point gap chains in
+    let new = without point gap changed in
+    get-ext (take k new) (take k old) (λ p. grind (arith, from, length-take k new, length-take k old, get-take k new p, get-take k old p, slice_get_past (take k new) p, slice_get_past (take k old) p,
+    without-low point gap changed p long, without-low point gap chains p fits, without-high point gap changed p long, without-high point gap chains p fits,
+    get-set-other chains (k + gap) p chain, get-set-other chains (k + gap) (p + gap) chain))
 
 module _ (m : Market) (test : ℕ → Bool) (old : List Chain) (point gap : ℕ) (fits : point ≤ length old) where
   -- the chains of the first k students, where those at these positions had their turn
@@ -173,10 +161,7 @@ module _ {m : Market} {test : ℕ → Bool} {old : List Chain} {marks : List Boo
   quiet : (n k j p : ℕ) → ((j : ℕ) → j < n → get_or turns j 0 < k + gap) → ((i : ℕ) → n ≤ i → i < length turns → j + gap ≤ get_or turns i 0) → k ≤ p → p < j → Contains turns (p + gap) → ⊥
   quiet n k j p past left low high (at, within, is) =
       let here : get_or turns at 0 ≡ p + gap = get_or_default turns at 0 (p + gap) within ∙ is in
-      elim (cases_lt at n) [
-        | inl had ↦ omega (arith, past at had, here, low)
-        | inr not_yet ↦ omega (arith, left at not_yet within, here, high)
-      ]
+      grind (arith, past at, left at, within, here, low, high)
 
   unmarked : (n k j p : ℕ) → ((j : ℕ) → j < n → get_or turns j 0 < k + gap) → ((i : ℕ) → n ≤ i → i < length turns → j + gap ≤ get_or turns i 0) → point ≤ k → j ≤ end → k ≤ p → p < j
       → (i : ℕ) × (slice_get (students_of m) p ≡ Some i) × (slice_get (students_in old) (p + gap) ≡ Some i) × (test i ≡ false)
@@ -236,10 +221,7 @@ module _ {m : Market} {test : ℕ → Bool} {old : List Chain} {marks : List Boo
   turn-before n renewed r had low =
       let (from, high, its) = turn-at n low in
       turns-until n (get_or turns n 0 - gap) renewed r had (omega (arith, had.left n (omega arith) low)) (omega (arith, from, high))
-      (λ i later within. elim (cases_lt n i) [
-        | inl after ↦ omega (arith, from, rising-less turns n i (within-rising marks (point + gap) (length marks - (point + gap))) after within)
-        | inr same ↦ let one : i ≡ n = omega (arith, later, same) in omega (arith, from, ap (λ at. get_or turns at 0) one)
-      ])
+      (λ i later within. grind (arith, from, later, within, rising-less turns n i (within-rising marks (point + gap) (length marks - (point + gap)))))
 
   -- whose it is
   pub turn-student : (n i : ℕ) → n < length turns → slice_get (students_in old) (get_or turns n 0) ≡ Some i → slice_get (students_of m) (get_or turns n 0 - gap) ≡ Some i
@@ -275,10 +257,7 @@ module _ {m : Market} {test : ℕ → Bool} {old : List Chain} {marks : List Boo
         k = at - gap + 1;
         from = omega (arith, from);
         within = omega (arith, from, high);
-        past = λ j had_it. elim (cases_lt j n) [
-          | inl before ↦ omega (arith, from, rising-less turns j n (within-rising marks (point + gap) (length marks - (point + gap))) before low)
-          | inr not_before ↦ let one : j ≡ n = omega (arith, had_it, not_before) in omega (arith, from, ap (λ at. get_or turns at 0) one)
-        ];
+        past = λ j had_it. grind (arith, from, low, had_it, rising-less turns j n (within-rising marks (point + gap) (length marks - (point + gap))));
         left = λ j later within. omega (arith, from, rising-less turns n j (within-rising marks (point + gap) (length marks - (point + gap))) (omega (arith, later)) within);
         count = ap (λ (cs : List Chain). length cs) pushed ∙ length-append renewed (record { student = i; rejections = chain } ∷ []) ∙ ap (λ l. l + 1) had.count;
         on = subst (λ (pair : List ℕ × List Chain). GoesOnInside m test old point gap r' (take (at - gap + 1) (without point gap (replaced old pair.0 pair.1))) (at - gap + 1))

@@ -137,15 +137,8 @@ standing-end : (p : Market) (test : ℕ → Bool) (old : List Chain) (point gap 
     → ((i : ℕ) → given i ≡ next_choice (cut p end) (joined (logs_in chains)) i)
     → (i : ℕ) → is_some (next_of p r.ranks i) ≡ (test i && is_some (given i))
 standing-end p test old point gap r chains end given apart segmented on is i =
-    let n = cut p end in
-    ap is_some (next-end p test old point gap r chains end on i)
-    ∙ elim (cases_Bool (test i)) [
-      | inl passes ↦
-          ap is_some (next-inside n test chains i (well-cut p end on.fits.well_formed) apart (theirs-end p test old point gap r chains end on) segmented passes ∙ sym (is i))
-          ∙ ap (λ b. b && is_some (given i)) (sym passes)
-      | inr fails ↦
-          ap is_some (next-dropped (restricted-restricts n test) (log_of test chains) i fails) ∙ sym (and_left (test i) (is_some (given i)) fails)
-    ]
+    let inside = next-inside (cut p end) test chains i (well-cut p end on.fits.well_formed) apart (theirs-end p test old point gap r chains end on) segmented in
+    grind (arith, common_steps, next-end p test old point gap r chains end on i, is i, inside, next-dropped (restricted-restricts (cut p end) test) (log_of test chains) i)
 
 -- the segments from a position on of those who pass
 part-end : (test : ℕ → Bool) (chains : List Chain) (students : List ℕ) (point : ℕ) → students_in chains ≡ students → joined (part_of (drop point students) test (drop point (logs_in chains))) ≡ log_of test (drop point chains)

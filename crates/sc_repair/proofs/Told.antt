@@ -1,5 +1,7 @@
 -- Who has what outside a region that no list tells.
 use Rattle.std.proofs.Common.{◌≡◌, ◌↔◌, ◌⊎◌, inl, inr, refl, ap, sym, subst, ℕ, nat_eq, Bool, true, false, ◌||◌, List, [], ◌∷◌, Option, Some, None, Contains, IsTrue, arith}
+use Rattle.std.proofs.lemmas.Grind.{common_steps}
+use Rattle.std.proofs.lemmas.Bool.Decides.{nat_tests}
 use Rattle.std.proofs.lemmas.Bool.{cases_eq, eqb-true, eq-eqb, false≢true, or_cases, or_left, or_right}
 use Rattle.std.proofs.lemmas.Option.{none-some, same_Some}
 use Rattle.sc_papers.proofs.Counting.{contains-cons, contains-head, contains-tail}
@@ -38,14 +40,7 @@ told-somehow P (x ∷ xs) none =
 
 -- two options are one or they differ
 same_or_other : (a b : Option ℕ) → (a ≡ b) ⊎ (a ≡ b → ⊥)
-same_or_other None None = inl refl
-same_or_other None (Some t) = inr (λ is. none-some t is)
-same_or_other (Some s) None = inr (λ is. none-some s (sym is))
-same_or_other (Some s) (Some t) =
-    elim (cases_eq s t) [
-      | inl same ↦ inl (ap Some same)
-      | inr apart ↦ inr (λ is. apart (same_Some s t is))
-    ]
+same_or_other a b = grind (arith, nat_tests, common_steps)
 
 -- whatever each test for a property would show to be one, is one
 pub same-if_told : (P : ℕ → Type 0) (xs : List ℕ) (a b : Option ℕ) → ((i : ℕ) → P i → Contains xs i) → ((test : ℕ → Bool) → ((i : ℕ) → IsTrue (test i) ↔ P i) → a ≡ b) → a ≡ b
