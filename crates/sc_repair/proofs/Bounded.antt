@@ -1,5 +1,6 @@
 -- An amendment proposes no more often than the students of its region list schools.
 use Rattle.std.proofs.Common.{◌≡◌, refl, sym, ap, subst, ◌∙◌, ℕ, zero, suc, ◌+◌, ◌≤◌, Bool, true, false, cond, List, [], ◌∷◌, length, drop, length-append, arith, inl, inr}
+use Rattle.std.proofs.lemmas.Grind.{common_steps}
 use Rattle.std.specs.Prelude.{◌&&◌, is_some}
 use Rattle.std.proofs.lemmas.Bool.{cases_Bool}
 use Rattle.sc_papers.specs.Log.{matching_of as gives, IsSettled}
@@ -57,13 +58,7 @@ module _ (new : Standing) (test : ℕ → Bool) (certified : IsCertified new) (a
       ∙ sym (counts-restricted new.papers test (λ i. is_some (gives (restricted new.papers test) (entries_of test (log_of new)) i)))
     where
       agree : (i : ℕ) → (test i && is_some (matching_of new i)) ≡ (test i && is_some (gives (restricted new.papers test) (entries_of test (log_of new)) i))
-      agree i =
-          elim (cases_Bool (test i)) [
-            | inl passes ↦ ap (λ found. test i && is_some found) (certified.matching i ∙ sym (next-part (restricted-restricts new.papers test) (log_of new) i passes))
-            | inr fails ↦
-                ap (λ b. b && is_some (matching_of new i)) fails
-                ∙ sym (ap (λ b. b && is_some (gives (restricted new.papers test) (entries_of test (log_of new)) i)) fails)
-          ]
+      agree i = grind (arith, common_steps, certified.matching i, next-part (restricted-restricts new.papers test) (log_of new) i)
 
   region-bounded : length (joined (part_of (students_of new.papers) test new.segments)) + placed_of new.papers test (matching_of new) ≤ all_choices (restricted new.papers test)
   region-bounded =

@@ -332,15 +332,8 @@ standing-inside m test chains r k well apart theirs segmented entered continues 
     let next : next_of m r.ranks i ≡ next_choice (restricted (cut m k) test) (log_of test chains) i =
     sym (continues.next i) ∙ ap (λ l. next_choice (entered_papers m r.ranks) l i) (ap (λ l. log_of test chains ++ l) no_log ∙ append-nil (log_of test chains))
     ∙ ap (λ n. next_choice n (log_of test chains) i) (entered-inside m test (has_entered m r.ranks) k well entered) in
-    ap is_some next
-    ∙ elim (cases_Bool (test i)) [
-      | inl passes ↦
-          ap is_some (next-inside (cut m k) test chains i (well-cut m k well) (apart-cut m test k well apart) (theirs ∙ students-first m k) segmented passes)
-          ∙ ap (λ b. b && is_some (next_choice (cut m k) (joined (logs_in chains)) i)) (sym passes)
-      | inr fails ↦
-          ap is_some (next-dropped (restricted-restricts (cut m k) test) (log_of test chains) i fails)
-          ∙ sym (and_left (test i) (is_some (next_choice (cut m k) (joined (logs_in chains)) i)) fails)
-    ]
+    let inside = next-inside (cut m k) test chains i (well-cut m k well) (apart-cut m test k well apart) (theirs ∙ students-first m k) segmented in
+    grind (arith, common_steps, next, inside, next-dropped (restricted-restricts (cut m k) test) (log_of test chains) i)
 
 -- it begins
 pub inside-begins : (m : Market) (test : ℕ → Bool) (old chains : List Chain) (gap : ℕ) (r : RoundView) (k : ℕ) → AreApart m test

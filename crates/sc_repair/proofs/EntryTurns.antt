@@ -125,20 +125,9 @@ swap-written places a b first second one two = get-ext _ _ each
     each : (i : ℕ) → slice_get (slice_set (slice_set places first (Some b)) second (Some a)) i ≡ slice_get (map (option_map (exchanged a b)) places) i
     each i =
         let as_mapped : slice_get (map (option_map (exchanged a b)) places) i ≡ option_map (option_map (exchanged a b)) (slice_get places i) = slice_get-map (option_map (exchanged a b)) places i in
-        elim (cases_eq i second) [
-          | inl at ↦
-              let within : second < length (slice_set places first (Some b)) = omega (arith, slice_get_within places second (Some b) two.here, length-set places first (Some b)) in
-              ap (slice_get (slice_set (slice_set places first (Some b)) second (Some a))) at ∙ get-set-same (slice_set places first (Some b)) second (Some a) within
-              ∙ sym (as_mapped ∙ ap (option_map (option_map (exchanged a b))) (ap (slice_get places) at ∙ two.here) ∙ ap (λ k. Some (Some k)) (exchanged-second a b))
-          | inr away ↦
-              get-set-other (slice_set places first (Some b)) second i (Some a) away
-              ∙ elim (cases_eq i first) [
-                | inl at ↦
-                    ap (slice_get (slice_set places first (Some b))) at ∙ get-set-same places first (Some b) (slice_get_within places first (Some a) one.here)
-                    ∙ sym (as_mapped ∙ ap (option_map (option_map (exchanged a b))) (ap (slice_get places) at ∙ one.here) ∙ ap (λ k. Some (Some k)) (exchanged-first a b))
-                | inr apart ↦ get-set-other places first i (Some b) apart ∙ kept i (slice_get places i) refl apart away ∙ sym as_mapped
-              ]
-        ]
+        let once = slice_set places first (Some b) in
+        grind (arith, as_mapped, kept i (slice_get places i) refl, one.here, two.here, exchanged-first a b, exchanged-second a b, slice_get_within places second (Some b) two.here,
+        slice_get_within places first (Some a) one.here, length-set places first (Some b), get-set-same once second (Some a), get-set-other once second i (Some a), get-set-same places first (Some b), get-set-other places first i (Some b))
 
 -- and the one of a withdrawal
 pub left-written : (places : List (Option ℕ)) (gone turn : ℕ) → Alone places gone turn → slice_set places turn None ≡ map (option_and_then (unless_at gone)) places
@@ -155,12 +144,7 @@ left-written places gone turn one = get-ext _ _ each
     each : (i : ℕ) → slice_get (slice_set places turn None) i ≡ slice_get (map (option_and_then (unless_at gone)) places) i
     each i =
         let as_mapped : slice_get (map (option_and_then (unless_at gone)) places) i ≡ option_map (option_and_then (unless_at gone)) (slice_get places i) = slice_get-map (option_and_then (unless_at gone)) places i in
-        elim (cases_eq i turn) [
-          | inl at ↦
-              ap (slice_get (slice_set places turn None)) at ∙ get-set-same places turn None (slice_get_within places turn (Some gone) one.here)
-              ∙ sym (as_mapped ∙ ap (option_map (option_and_then (unless_at gone))) (ap (slice_get places) at ∙ one.here) ∙ ap Some gone-there)
-          | inr apart ↦ get-set-other places turn i None apart ∙ kept i (slice_get places i) refl apart ∙ sym as_mapped
-        ]
+        grind (arith, as_mapped, kept i (slice_get places i) refl, one.here, gone-there, slice_get_within places turn (Some gone) one.here, get-set-same places turn None, get-set-other places turn i None)
 
 -- what the writes need and make
 pub turn-within : (t : TurnsOfEntry) (p turn : ℕ) → AreTurns t → slice_get t.turns p ≡ Some turn → turn < length t.positions

@@ -263,12 +263,9 @@ rejoined m n test old new places given r other r' theirs_old theirs_new same_out
     log_before = ap (λ (l : List Rejection). joined (logs_in old) ++ l) waits.stood.no_log ∙ append-nil (joined (logs_in old))
 
     has-next : (i : ℕ) → next_of n r'.ranks i ≡ assigned given i
-    has-next i = elim (cases_Bool (test i)) [
-      | inl passes ↦ next-kept n other.ranks r'.ranks i (takes.taken i passes) ∙ sym (inside.placed i passes)
-      | inr fails ↦
-          next-kept n r.ranks r'.ranks i (takes.others i fails) ∙ waits.next i fails
-          ∙ sym (waits.stood.continues.next i) ∙ (λ t. next_choice (everybody_before t) (log_before t) i) ∙ sym (before i) ∙ sym (others i fails)
-    ]
+    has-next i =
+        let stood : next_choice (entered_papers m waits.before.ranks) (joined (logs_in old) ++ waits.before.log) i ≡ next_choice m (joined (logs_in old)) i = λ t. next_choice (everybody_before t) (log_before t) i in
+        grind (arith, stood, next-kept n other.ranks r'.ranks i, next-kept n r.ranks r'.ranks i, takes.taken i, takes.others i, inside.placed i, waits.next i, waits.stood.continues.next i, before i, others i)
 
 -- where the students of new papers stood, by their positions, tells their ranks
 rank-moved : (m n : Market) (test : ℕ → Bool) (l r : List (Option ℕ)) → WellFormed m → AlikeOutside test m n → ((i : ℕ) → test i ≡ true → rank_of m l i ≡ None)

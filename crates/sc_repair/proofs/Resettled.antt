@@ -121,15 +121,10 @@ pub matching-end : (m p : Market) (test : ℕ → Bool) (old : List Chain) (poin
     → (i : ℕ) → either_by test (next_of p r.ranks) places i ≡ next_choice (cut p end) (joined (logs_in chains)) i
 matching-end m p test old point gap r chains end places well changes optimal segmented on i =
     let n = cut p end in
-    elim (cases_Bool (test i)) [
-      | inl passes ↦
-          cond-true (test i) (next_of p r.ranks i) (places i) passes ∙ next-end p test old point gap r chains end on i
-          ∙ next-inside n test chains i changes.well_formed changes.apart (theirs-end p test old point gap r chains end on) segmented passes
-      | inr fails ↦
-          cond-false (test i) (next_of p r.ranks i) (places i) fails
-          ∙ optimal-outside m n test places (matching_of n (joined (logs_in chains))) well changes.well_formed changes.apart_before changes.apart changes.outside optimal
-          (settled-optimal n changes.well_formed (joined (logs_in chains)) (segments-settled n (logs_in chains) segmented)) i fails
-    ]
+    let inside = next-inside n test chains i changes.well_formed changes.apart (theirs-end p test old point gap r chains end on) segmented in
+    let rest = optimal-outside m n test places (matching_of n (joined (logs_in chains))) well changes.well_formed changes.apart_before changes.apart changes.outside optimal
+    (settled-optimal n changes.well_formed (joined (logs_in chains)) (segments-settled n (logs_in chains) segmented)) i in
+    grind (arith, common_steps, next-end p test old point gap r chains end on i, inside, rest)
 
 -- of those who stand in the round, each passes and has a place
 standing-end : (p : Market) (test : ℕ → Bool) (old : List Chain) (point gap : ℕ) (r : RoundView) (chains : List Chain) (end : ℕ) (given : Matching)
