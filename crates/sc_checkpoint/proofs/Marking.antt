@@ -1,5 +1,5 @@
 -- Segments at positions of the order of entry: their log, where their students stand, and a table of ranks by their entries.
-use Rattle.std.proofs.Common.{◌≡◌, ap, sym, ◌∙◌, ℕ, ◌+◌, List, [], ◌∷◌, ◌++◌, length, min, Some, take, slice_get, append-nil, arith, zero, suc, ◌<◌, get_or, map, refl, ◌≤◌, Bool, not, Option, None, find, inl, inr, ◌==◌, nat_eq, nat_lt, false, ◌&&◌, ◌||◌, set, position}
+use Rattle.std.proofs.Common.{◌≡◌, ap, sym, ◌∙◌, ℕ, ◌+◌, List, [], ◌∷◌, ◌++◌, length, min, Some, take, slice_get, append-nil, arith, zero, suc, ◌<◌, get_or, map, refl, ◌≤◌, Bool, not, Option, None, find, inl, inr, ◌==◌, nat_eq, false, ◌||◌, set, position}
 use Rattle.std.proofs.lemmas.Bool.Decides.{nat_tests}
 use Rattle.std.proofs.lemmas.List.{length-append, take_more, length-map, map_push}
 use Rattle.std.proofs.lemmas.Grind.{flat_map-append, common_steps}
@@ -21,8 +21,7 @@ use Rattle.sc_checkpoint.specs.NextChoices.{next_choices_after}
 use Rattle.sc_checkpoint.specs.declared.standing.Standing.{Standing}
 use Rattle.sc_checkpoint.specs.declared.rank_set.RankSet.{RankSet}
 use Rattle.std.proofs.Math.Bool.{or-false}
-use Rattle.std.specs.List.{position_or_len}
-use Rattle.std.proofs.lemmas.Bool.{cases_eq, cases_lt, cond-true, lt-ltb, eqb-true, eq-eqb, ne_eqb, false≢true, false_from_ne_true, and_parts}
+use Rattle.std.proofs.lemmas.Bool.{cases_eq, eqb-true, eq-eqb, false≢true}
 use Rattle.std.proofs.lemmas.List.Quantifiers.{position-Some}
 use Rattle.std.proofs.lemmas.List.Sums.{fails_before_first}
 use Rattle.sc_papers.proofs.Rejections.{is_of, rejected-push}

@@ -1,7 +1,7 @@
 -- Lists of students, one for each school, one of which changes.
 use Rattle.std.proofs.Common.{◌≡◌, inl, inr, ◌<◌, ap, sym, subst, ◌∙◌, ℕ, Bool, List, [], ◌∷◌, ◌++◌, length, filter, set, get_or, get_or-set_other, get_or-set_same, Contains, Vec, Global, refl, arith}
 use Rattle.std.proofs.lemmas.Grind.{common_steps}
-use Rattle.std.proofs.lemmas.Bool.{cases_Bool, cases_eq}
+use Rattle.std.proofs.lemmas.Bool.{cases_eq}
 use Rattle.std.proofs.lemmas.List.{get_or-map, length-map, map-append, map-set}
 use Rattle.sc_region.specs.declared.first.First.{First}
 use Rattle.sc_region.specs.Districts.{firsts_at, lists_in, students_in}

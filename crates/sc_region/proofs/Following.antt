@@ -1,5 +1,5 @@
 -- What an accepted amendment changes in the districts.
-use Rattle.std.proofs.Common.{◌≡◌, inl, inr, ◌<◌, refl, sym, ap, subst, ◌∙◌, ℕ, ◌==◌, nat_eq, false, List, length, Some, None, Contains, arith}
+use Rattle.std.proofs.Common.{◌≡◌, inl, inr, ◌<◌, refl, sym, ap, subst, ◌∙◌, ℕ, ◌==◌, nat_eq, List, length, Some, None, Contains, arith}
 use Rattle.std.specs.Prelude.{slice_index}
 use Rattle.std.specs.List.{position_or_len}
 use Rattle.std.proofs.lemmas.Bool.Decides.{nat_tests}

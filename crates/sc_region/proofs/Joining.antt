@@ -3,7 +3,7 @@ use Rattle.std.proofs.Common.{◌≡◌, ◌∙◌, ap, ℕ, ◌<◌, nat_eq, tr
 use Rattle.std.proofs.lemmas.Grind.{common_steps}
 use Rattle.std.proofs.lemmas.List.{get_or_read, get_or-map, length-map, get_or_default, map_push, take_more}
 use Rattle.std.specs.Option.{option_map_or}
-use Rattle.std.proofs.lemmas.Bool.{false≢true, cases_Bool, cases_eq}
+use Rattle.std.proofs.lemmas.Bool.{false≢true}
 use Rattle.std.proofs.lemmas.List.Elements.{Contains-get_or}
 use Rattle.std.proofs.lemmas.Map.Entries.{All-lookup, length-keys_of}
 use Rattle.sc_papers.specs.Market.{Market, choices_of, is_student, student_of, schools_of, is_school, student_at, students_of}
@@ -13,7 +13,6 @@ use Rattle.sc_region.specs.Groups.{first_choice, position_of, group_of, joined, 
 use Rattle.sc_papers.specs.Classed.{Classed}
 use Rattle.sc_papers.proofs.Positions.{position-at, among-student, school-position}
 use Rattle.std.specs.List.{fold, position_or_len, range_with_len}
-use Rattle.std.specs.Prelude.{nat_lt}
 use Rattle.std.proofs.lemmas.Bool.Decides.{nat_tests}
 use Rattle.std.proofs.lemmas.List.Sums.{fold-append}
 use Rattle.sc_papers.proofs.Counting.{contains-cons, contains-head, contains-tail}

@@ -1,7 +1,7 @@
 -- A settling of the students who pass, from a point on: their chains, how it begins, and one student after the other.
 use Rattle.std.proofs.Common.{◌≡◌, refl, ap, sym, ◌∙◌, ℕ, zero, suc, Bool, true, false, cond, List, [], ◌∷◌, ◌++◌, take, drop, append-nil, Some, None, slice_get, subst, add-zero, inl, inr, ◌+◌, ◌==◌, not, ◌&&◌, ◌||◌, length, filter, append_assoc, arith, nat_eq, Contains, is_some}
 use Rattle.std.proofs.lemmas.Bool.Decides.{nat_tests}
-use Rattle.std.proofs.lemmas.Bool.{cond-true, cond-false, cases_Bool, eqb-true, and_from, and_left, and_right, or_right, false≢true}
+use Rattle.std.proofs.lemmas.Bool.{cond-true, cond-false, eqb-true, and_left, false≢true}
 use Rattle.std.proofs.lemmas.List.{map-append, take-append-drop, drop-append-le, length-append, take-append-le, take_more, drop_all, take-map, take-take}
 use Rattle.std.proofs.lemmas.List.Elements.{filter-append, All-contains_itself, All-filter, All-map, All-take, All-weaker, filter_passes}
 use Rattle.std.proofs.lemmas.Grind.{flat_map-append, common_steps}
@@ -20,7 +20,7 @@ use Rattle.sc_papers.specs.WellFormed.{WellFormed}
 use Rattle.sc_papers.proofs.Apart.{next-part}
 use Rattle.sc_papers.proofs.Restriction.{restricted-restricts, next-dropped}
 use Rattle.sc_weave.proofs.Part.{part-segmented, segment-fails, segment-passes}
-use Rattle.std.proofs.Math.Bool.{or-false, and_comm}
+use Rattle.std.proofs.Math.Bool.{and_comm}
 use Rattle.std.proofs.lemmas.List.Filters.{length-filter_more}
 use Rattle.sc_engine.specs.RoundView.{RoundView, has_entered, Enters, entered_papers, next_of, nobody, standing_but, Continues, Fits}
 use Rattle.sc_engine.proofs.Settling.{first-apart, first-more}

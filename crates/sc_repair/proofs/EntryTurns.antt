@@ -1,7 +1,7 @@
 -- Turns of entry stay turns where a student enters, two change places, or the last one withdraws.
-use Rattle.std.proofs.Common.{◌≡◌, refl, sym, ap, ◌∙◌, ℕ, zero, suc, ◌-◌, ◌<◌, ◌==◌, cond, List, [], ◌∷◌, ◌++◌, length, map, take, slice_get, slice_set, swap, Option, Some, None, inl, inr, ◌⊎◌, arith}
+use Rattle.std.proofs.Common.{◌≡◌, refl, sym, ap, ◌∙◌, ℕ, zero, suc, ◌-◌, ◌<◌, cond, List, [], ◌∷◌, ◌++◌, length, map, take, slice_get, slice_set, swap, Option, Some, None, inl, inr, ◌⊎◌, arith}
 use Rattle.std.specs.Option.{option_and_then, option_map}
-use Rattle.std.proofs.lemmas.Bool.{cases_Bool, cases_eq, eqb-true, eq-eqb, false≢true}
+use Rattle.std.proofs.lemmas.Bool.{eq-eqb}
 use Rattle.std.proofs.lemmas.Bool.Decides.{nat_tests}
 use Rattle.std.proofs.lemmas.List.{length-append, length-set}
 use Rattle.std.proofs.lemmas.Option.{none-some, same_Some, slice_get-map, slice_get_within}
@@ -9,7 +9,7 @@ use Rattle.indexmap.proofs.IndexTableLemmas.Indexes.{swap_self}
 use Rattle.indexmap.proofs.ReorderLemmas.{exchange-twice}
 use Rattle.sc_checkpoint.proofs.Replacing.{get-set-other, get-set-same}
 use Rattle.sc_repair.specs.Turns.{AreTurns, TurnsOfEntry, entered, exchanged, first_turns, left, swapped, unless_at}
-use Rattle.sc_repair.proofs.InTurn.{Alone, Avoids, Each, exchanged-other, seam-there, swapped-there, take-there}
+use Rattle.sc_repair.proofs.InTurn.{Alone, Avoids, exchanged-other, seam-there, swapped-there, take-there}
 use Rattle.sc_repair.proofs.Renewing.{get-append-low, get-take, get-ext}
 
 -- each position has its turn, and nobody stands past the last one
@@ -126,8 +126,22 @@ swap-written places a b first second one two = get-ext _ _ each
     each i =
         let as_mapped : slice_get (map (option_map (exchanged a b)) places) i ≡ option_map (option_map (exchanged a b)) (slice_get places i) = slice_get-map (option_map (exchanged a b)) places i in
         let once = slice_set places first (Some b) in
-        grind (arith, as_mapped, kept i (slice_get places i) refl, one.here, two.here, exchanged-first a b, exchanged-second a b, slice_get_within places second (Some b) two.here,
-        slice_get_within places first (Some a) one.here, length-set places first (Some b), get-set-same once second (Some a), get-set-other once second i (Some a), get-set-same places first (Some b), get-set-other places first i (Some b))
+        grind (
+          arith,
+          as_mapped,
+          kept i (slice_get places i) refl,
+          one.here,
+          two.here,
+          exchanged-first a b,
+          exchanged-second a b,
+          slice_get_within places second (Some b) two.here,
+          slice_get_within places first (Some a) one.here,
+          length-set places first (Some b),
+          get-set-same once second (Some a),
+          get-set-other once second i (Some a),
+          get-set-same places first (Some b),
+          get-set-other places first i (Some b),
+        )
 
 -- and the one of a withdrawal
 pub left-written : (places : List (Option ℕ)) (gone turn : ℕ) → Alone places gone turn → slice_set places turn None ≡ map (option_and_then (unless_at gone)) places

@@ -1,7 +1,6 @@
 -- Positions of which one is gone, so that whoever stands behind moves up.
-use Rattle.std.proofs.Common.{◌≡◌, ◌↔◌, ◌⊎◌, inl, inr, ap, sym, subst, ◌∙◌, ℕ, ◌+◌, ◌<◌, nat_lt, List, [], ◌∷◌, ◌++◌, length, take, get_or, Contains, arith}
+use Rattle.std.proofs.Common.{◌≡◌, ◌↔◌, inl, inr, ap, sym, subst, ◌∙◌, ℕ, ◌+◌, ◌<◌, List, [], ◌∷◌, ◌++◌, length, take, get_or, Contains, arith}
 use Rattle.std.proofs.lemmas.Bool.Decides.{nat_tests}
-use Rattle.std.proofs.lemmas.Bool.{cases_Bool, cond-false, cond-true, ltb-false, ltb-true}
 use Rattle.std.proofs.lemmas.List.Elements.{Contains-append_left, Contains-push, Contains-push_cases}
 use Rattle.sc_engine.proofs.Leaving.{earlier, earlier-or_latest, latest}
 use Rattle.sc_repair.specs.Rejoining.{before_leaving}

@@ -3,7 +3,7 @@ use Rattle.std.proofs.Common.{◌≡◌, inl, inr, refl, ap, sym, subst, ◌∙�
 use Rattle.std.proofs.lemmas.Grind.{common_steps}
 use Rattle.std.proofs.lemmas.Bool.Decides.{nat_tests}
 use Rattle.std.proofs.Math.Bool.{or-false}
-use Rattle.std.proofs.lemmas.Bool.{cases_Bool, cond-true, cond-false, eqb-false, eqb-true, or_left, or_parts, not_from_true, not-false, and_left, eq-eqb, false_from_ne_true, or_right}
+use Rattle.std.proofs.lemmas.Bool.{cond-true, eqb-false, or_left, or_parts, not_from_true, not-false, eq-eqb, false_from_ne_true, or_right}
 use Rattle.std.proofs.lemmas.List.Folds.{list_any-append}
 use Rattle.std.proofs.lemmas.Option.{none-some, same_Some}
 use Rattle.sc_papers.specs.Assignment.{assigned}
@@ -13,8 +13,8 @@ use Rattle.sc_papers.specs.Restriction.{restricted, cut, joined, outside}
 use Rattle.sc_papers.specs.declared.rejection.Rejection.{Rejection}
 use Rattle.sc_papers.proofs.Rejections.{next-same}
 use Rattle.sc_papers.proofs.Restriction.{next-dropped, next-kept, restricted-restricts}
-use Rattle.sc_engine.specs.RoundView.{RoundView, has_entered, next_of, without_log, Continues, Enters, nobody, standing_but}
-use Rattle.sc_repair.specs.Changed.{is_moved, EntersBy, newcomer, HasEntered, StandsAfter, IsNextToEnter, standing_of}
+use Rattle.sc_engine.specs.RoundView.{RoundView, has_entered, next_of, without_log, Continues, Enters}
+use Rattle.sc_repair.specs.Changed.{is_moved, EntersBy, newcomer, HasEntered, IsNextToEnter, standing_of}
 use Rattle.std.specs.List.{list_any}
 use Rattle.std.proofs.lemmas.List.{drop-append-le, drop_all, length-append, length-map, map-append, take_all}
 use Rattle.std.proofs.lemmas.Map.Made.{is_some-lookup}

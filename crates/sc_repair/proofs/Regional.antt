@@ -1,5 +1,5 @@
 -- The region of an amendment: it lies apart, the students stand in step, and what a standing is after the amendment.
-use Rattle.std.proofs.Common.{◌≡◌, inl, inr, refl, ap, sym, subst, ◌∙◌, ℕ, ◌+◌, ◌-◌, nat_eq, Bool, true, false, cond, not, List, [], ◌∷◌, ◌++◌, Contains, filter, append-nil, add-one, add-zero, ◌⊎◌, zero, suc, ◌≤◌, ◌<◌, length, Some, None, slice_get, arith, ◌↔◌, Ok, IsTrue, is_some, take}
+use Rattle.std.proofs.Common.{◌≡◌, inl, inr, refl, ap, sym, subst, ◌∙◌, ℕ, ◌+◌, ◌-◌, nat_eq, Bool, true, false, not, List, [], ◌∷◌, ◌++◌, Contains, filter, add-one, add-zero, ◌⊎◌, zero, suc, ◌≤◌, ◌<◌, length, Some, None, slice_get, arith, ◌↔◌, Ok, IsTrue, is_some, take}
 use Rattle.std.proofs.lemmas.Grind.{common_steps}
 use Rattle.std.proofs.lemmas.Bool.Decides.{nat_tests}
 use Rattle.std.specs.Map.{lookup, remove_entry, set_value, keys_of}

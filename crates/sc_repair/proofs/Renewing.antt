@@ -1,7 +1,7 @@
 -- A settling in which the students of a region have their turn at their positions alone, and all others stay where they are.
 use Rattle.std.proofs.Common.{◌≡◌, add-zero, inl, inr, refl, ap, sym, subst, ◌∙◌, ℕ, zero, suc, ◌+◌, ◌-◌, ◌<◌, ◌≤◌, Bool, true, false, List, [], ◌∷◌, ◌++◌, drop, get_or, length, set, take, Contains, Some, None, slice_get, length-set, arith, filter, map}
 use Rattle.std.specs.Option.{option_map}
-use Rattle.std.proofs.lemmas.Bool.{cases_lt, cases_Bool}
+use Rattle.std.proofs.lemmas.Bool.{cases_Bool}
 use Rattle.std.proofs.lemmas.List.{get_or-take, get_or_default, length-append, length-drop, length-map, length-take, length-take-le, take-append-le, take_all, take_more, take-map}
 use Rattle.std.proofs.lemmas.Option.{none-some, same_Some, slice_get-map, slice_get_past, slice_get_within, slice_get-get_or}
 use Rattle.sc_papers.specs.Market.{Market, students_of, student_at}
@@ -72,9 +72,22 @@ first-same point gap k chains chain fits from =
     let long : point ≤ length changed = omega (arith, fits, length-set chains (k + gap) chain) in
     let old = without point gap chains in
     let new = without point gap changed in
-    get-ext (take k new) (take k old) (λ p. grind (arith, from, length-take k new, length-take k old, get-take k new p, get-take k old p, slice_get_past (take k new) p, slice_get_past (take k old) p,
-    without-low point gap changed p long, without-low point gap chains p fits, without-high point gap changed p long, without-high point gap chains p fits,
-    get-set-other chains (k + gap) p chain, get-set-other chains (k + gap) (p + gap) chain))
+    get-ext (take k new) (take k old) (λ p. grind (
+      arith,
+      from,
+      length-take k new,
+      length-take k old,
+      get-take k new p,
+      get-take k old p,
+      slice_get_past (take k new) p,
+      slice_get_past (take k old) p,
+      without-low point gap changed p long,
+      without-low point gap chains p fits,
+      without-high point gap changed p long,
+      without-high point gap chains p fits,
+      get-set-other chains (k + gap) p chain,
+      get-set-other chains (k + gap) (p + gap) chain,
+    ))
 
 module _ (m : Market) (test : ℕ → Bool) (old : List Chain) (point gap : ℕ) (fits : point ≤ length old) where
   -- the chains of the first k students, where those at these positions had their turn

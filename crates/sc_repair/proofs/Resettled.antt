@@ -3,7 +3,7 @@
 use Rattle.std.proofs.Common.{◌≡◌, inl, inr, refl, ap, sym, subst, ◌∙◌, ℕ, ◌+◌, ◌≤◌, ◌==◌, Bool, true, false, ◌&&◌, List, ◌++◌, length, take, drop, is_some, append-nil, arith, add-one, add-zero, ◌⊎◌, zero, suc, ◌-◌, ◌<◌, nat_eq, Option, Some, None, slice_get, get_or, [], ◌∷◌, Contains}
 use Rattle.std.proofs.lemmas.Grind.{common_steps}
 use Rattle.std.specs.List.{list_any, IsDistinct}
-use Rattle.std.proofs.lemmas.Bool.{cases_Bool, cond-true, cond-false, and_left, false≢true, or_left, eqb-true}
+use Rattle.std.proofs.lemmas.Bool.{cases_Bool, cond-true, false≢true, or_left, eqb-true}
 use Rattle.std.proofs.lemmas.List.{drop_all, drop-map, length-map, length-take, take-map, take-append-drop, take-take}
 use Rattle.sc_papers.specs.Log.{matching_of, next_choice}
 use Rattle.sc_papers.specs.Market.{Market, students_of}
