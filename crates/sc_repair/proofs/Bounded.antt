@@ -1,5 +1,5 @@
 -- An amendment proposes no more often than the students of its region list schools.
-use Rattle.std.proofs.Common.{◌≡◌, refl, sym, ap, subst, ◌∙◌, ℕ, zero, suc, ◌+◌, ◌≤◌, Bool, true, false, cond, List, [], ◌∷◌, length, drop, length-append, arith}
+use Rattle.std.proofs.Common.{◌≡◌, refl, sym, ap, subst, ◌∙◌, ℕ, zero, suc, ◌+◌, ◌≤◌, Bool, List, [], ◌∷◌, length, drop, length-append, arith}
 use Rattle.std.proofs.lemmas.Grind.{common_steps}
 use Rattle.std.specs.Prelude.{◌&&◌, is_some}
 use Rattle.sc_papers.specs.Log.{matching_of as gives, IsSettled}
@@ -32,12 +32,7 @@ part-later : (k : ℕ) (students : List ℕ) (test : ℕ → Bool) (segments : L
 part-later zero students test segments = omega arith
 part-later (suc k) [] test segments = omega arith
 part-later (suc k) (i ∷ students) test [] = omega (arith, ap (λ (own : List (List Rejection)). length (joined own)) (part-none (drop k students) test))
-part-later (suc k) (i ∷ students) test (segment ∷ segments) = go (test i) (part_of students test segments) (part-later k students test segments)
-  where
-    go : (b : Bool) (later : List (List Rejection)) → length (joined (part_of (drop k students) test (drop k segments))) ≤ length (joined later)
-        → length (joined (part_of (drop k students) test (drop k segments))) ≤ length (joined (cond b (segment ∷ later) later))
-    go true later low = omega (arith, low, length-append segment (joined later))
-    go false later low = low
+part-later (suc k) (i ∷ students) test (segment ∷ segments) = grind (arith, common_steps, part-later k students test segments, length-append segment (joined (part_of students test segments)))
 
 -- certified papers whose students who pass lie apart
 module _ (new : Standing) (test : ℕ → Bool) (certified : IsCertified new) (apart : AreApart new.papers test) where

@@ -61,11 +61,7 @@ log-parts test k chains =
 -- the segments of those who pass are the logs of their chains
 pub part-chains : (test : ℕ → Bool) (chains : List Chain) → part_of (students_in chains) test (logs_in chains) ≡ logs_in (chains_of test chains)
 part-chains test [] = refl
-part-chains test (chain ∷ chains) = go (test chain.student) (part_of (students_in chains) test (logs_in chains)) (chains_of test chains) (part-chains test chains)
-  where
-    go : (b : Bool) (later : List (List Rejection)) (passed : List Chain) → later ≡ logs_in passed → cond b (chain.rejections ∷ later) later ≡ logs_in (cond b (chain ∷ passed) passed)
-    go true later passed is = ap (λ ls. chain.rejections ∷ ls) is
-    go false later passed is = is
+part-chains test (chain ∷ chains) = grind (arith, common_steps, part-chains test chains)
 
 -- the chains from a position on
 pub drop-next : (chains : List Chain) (k i : ℕ) → slice_get (students_in chains) k ≡ Some i → (chain : Chain) × (slice_get chains k ≡ Some chain) × (chain.student ≡ i) × (drop k chains ≡ chain ∷ drop (suc k) chains)
@@ -90,13 +86,7 @@ record StaysApart (test : ℕ → Bool) (chain : Chain) : Type 0 where
 entries-of : (test : ℕ → Bool) (chains : List Chain) → AllByRecursion (StaysApart test) chains → entries_of test (joined (logs_in chains)) ≡ log_of test chains
 entries-of test [] apart = refl
 entries-of test (chain ∷ chains) apart =
-    filter-append (λ e. test e.student) chain.rejections (joined (logs_in chains))
-    ∙ go (test chain.student) (entries_of test chain.rejections) apart.0.passes apart.0.fails (entries-of test chains apart.1)
-  where
-    go : (b : Bool) (own : List Rejection) → (b ≡ true → own ≡ chain.rejections) → (b ≡ false → own ≡ []) → entries_of test (joined (logs_in chains)) ≡ log_of test chains
-        → own ++ entries_of test (joined (logs_in chains)) ≡ joined (logs_in (cond b (chain ∷ chains_of test chains) (chains_of test chains)))
-    go true own passes fails rest = λ t. passes refl t ++ rest t
-    go false own passes fails rest = λ t. fails refl t ++ rest t
+    grind (arith, common_steps, filter-append (λ e. test e.student) chain.rejections (joined (logs_in chains)), apart.0.passes, apart.0.fails, entries-of test chains apart.1)
 
 each-from : {X : Type 0} (P : X → Type 0) (xs : List X) → ((k : ℕ) (x : X) → slice_get xs k ≡ Some x → P x) → AllByRecursion P xs
 each-from P [] each = tt

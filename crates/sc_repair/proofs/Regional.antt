@@ -371,9 +371,7 @@ same-test : (p q : ℕ → Bool) → ((i : ℕ) → IsTrue (p i) ↔ IsTrue (q i
 same-test p q same = λ t i. both (p i) (q i) (same i) t
   where
     both : (a b : Bool) → (IsTrue a ↔ IsTrue b) → a ≡ b
-    both true b same = sym (same.0 refl)
-    both false true same = same.1 refl
-    both false false same = refl
+    both a b same = grind (arith, common_steps, same.0, same.1)
 
 pub counts-region : (m : Market) (a : Amendment) (region : List ℕ) (standing : Standing) → TellsRegion m a (is_among region) → CountsInside (is_among region) (rewind_point m a) standing → CountsRegion m a standing
 counts-region m a region standing tells counts test told =
