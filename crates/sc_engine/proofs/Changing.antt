@@ -1,5 +1,5 @@
 -- A round that fits papers fits them after a change, where whoever it touches does not stand in it.
-use Rattle.std.proofs.Common.{◌≡◌, inl, inr, refl, ap, sym, subst, ◌∙◌, ℕ, ◌<◌, ◌≤◌, nat_eq, Bool, true, false, not, ◌&&◌, List, [], ◌∷◌, length, map, set, Option, None, Some, Contains, count_by, position, slice_get, slice_index_or, arith, length-set}
+use Rattle.std.proofs.Common.{◌≡◌, inl, inr, refl, ap, sym, subst, ◌∙◌, ℕ, ◌<◌, ◌≤◌, nat_eq, Bool, true, false, not, ◌&&◌, List, [], ◌∷◌, length, map, set, Option, None, Some, Contains, count_by, is_some, position, slice_get, slice_index_or, arith, length-set}
 use Rattle.std.specs.Map.{keys_of, lookup}
 use Rattle.std.specs.Option.{option_map_or}
 use Rattle.std.proofs.lemmas.Bool.{and_right, cases_Bool, cases_eq, cond-true}
@@ -8,6 +8,7 @@ use Rattle.std.proofs.lemmas.Option.{none-some}
 use Rattle.sc_papers.specs.Key.{key_of}
 use Rattle.sc_papers.specs.Market.{Market, choices_of, is_school, schools_of, seats_of, student_of, students_of}
 use Rattle.sc_papers.specs.Matching.{has, how_many}
+use Rattle.sc_papers.specs.Progress.{placed}
 use Rattle.sc_papers.specs.Restriction.{outside, restricted, AlikeOutside}
 use Rattle.sc_papers.specs.WellFormed.{WellFormed, WithinLimits}
 use Rattle.sc_papers.specs.declared.key.Key.{Key}
@@ -72,6 +73,12 @@ module _ (m n : Market) (test : ℕ → Bool) (ranks ranks' : List (Option ℕ))
       go : (o : Option ℕ) → rank_of m ranks i ≡ o → test i ≡ false → next_of n ranks' i ≡ next_of m ranks i
       go None is fails = next-none n ranks' i (same i ∙ is) ∙ sym (next-none m ranks i is)
       go (Some rank) is fails = next-by n ranks' i rank (same i ∙ is) ∙ ap (λ choices. slice_get choices rank) (choices-outside i fails) ∙ sym (next-by m ranks i rank is)
+
+  -- as many stand at a choice
+  pub standing-changed : placed n (next_of n ranks') ≡ placed m (next_of m ranks)
+  standing-changed =
+      how_many-agree n (λ i. is_some (next_of n ranks' i)) (λ i. is_some (next_of m ranks i)) (λ i. ap is_some (next-changed i))
+      ∙ counts-outside (λ i. is_some (next_of m ranks i)) (λ i passes. ap is_some (next-none m ranks i (gone i passes)))
 
   -- who stands somewhere does not pass
   stander-fails : (i s : ℕ) → next_of m ranks i ≡ Some s → test i ≡ false
