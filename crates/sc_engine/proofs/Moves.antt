@@ -9,12 +9,12 @@ use Rattle.sc_papers.specs.declared.key.Key.{Key}
 use Rattle.sc_papers.specs.declared.proposal.Proposal.{Proposal}
 use Rattle.sc_seats.specs.Roll.{RollView, Refuses}
 use Rattle.sc_engine.specs.Proposals.{IsProposal}
-use Rattle.sc_engine.specs.RoundView.{RoundView, next_of, choices_left, except, IsAway, IsPutOut, Moves, OffersAt, OthersStay, RollFits, roll_at}
+use Rattle.sc_engine.specs.RoundView.{RoundView, next_of, choices_left, except, IsAway, IsPutOut, OffersAt, Passes, RollFits, roll_at}
 use Rattle.sc_engine.proofs.Rolls.{on-roll}
 use Rattle.sc_engine.proofs.RollCounts.{key-student}
 use Rattle.sc_engine.proofs.Tables.{rank-at, rank-low, roll-at, stands-at, StandsAt}
 use Rattle.sc_engine.proofs.Proposals.{Proposed}
-use Rattle.sc_engine.proofs.Steps.{Refused, entry_of, left-refused, moves-after, moves-refused, others-refused}
+use Rattle.sc_engine.proofs.Steps.{Refused, entry_of, left-refused, passes-after, passes-refused}
 
 -- what the roll answered to the offer of a proposal
 pub proposed-told : (m : Market) (r : RoundView) (away : ℕ → Bool) (proposer s at : ℕ) (key : Key) (rolls : List RollView) (told out : Option Key) → IsAway m r away proposer → next_of m r.ranks proposer ≡ Some s → position (nat_eq s) (schools_of m) ≡ Some at → key ≡ key_of m proposer s → OffersAt r.rolls rolls at key told → told ≡ out → Proposed m r away proposer s at rolls out
@@ -70,15 +70,14 @@ refused-told m r r' i s place put found rolls log moved one_more =
     )
 
 -- one more school has refused a student who is away, and they move on
-pub passed-more : (m : Market) (first r r' : RoundView) (away : ℕ → Bool) (i place : ℕ) (made : Proposal) → IsAway m first away i → Moves m first away r away → IsProposal m i (next_of m r.ranks i) (Some made) → OffersAt r.rolls r.rolls made.position made.key (Some made.key)
+pub passed-more : (m : Market) (first r r' : RoundView) (away : ℕ → Bool) (i place : ℕ) (made : Proposal) → IsAway m first away i → Passes m first away r i → IsProposal m i (next_of m r.ranks i) (Some made) → OffersAt r.rolls r.rolls made.position made.key (Some made.key)
     → position (nat_eq i) (students_of m) ≡ Some place → r'.rolls ≡ r.rolls → r'.log ≡ r.log ++ entry_of made.key.student made.school ∷ []
     → ((rank : ℕ) → get_or r.ranks place None ≡ Some rank → r'.ranks ≡ set r.ranks place (Some (rank + 1)))
-    → r'.proposals ≡ r.proposals + 1 → Moves m first away r' away × (choices_left m r'.ranks < choices_left m r.ranks) × OthersStay m r r' i
+    → r'.proposals ≡ r.proposals + 1 → Passes m first away r' i × (choices_left m r'.ranks < choices_left m r.ranks)
 passed-more m first r r' away i place made hand before is offered found rolls log moved one_more =
     let own : made.key.student ≡ i = ap (λ (k : Key). k.student) is.key ∙ key-student m i made.school in
     let put = put-refused m r i made.school made.position made.key (sym is.school) is.position is.key offered in
     let told = refused-told m r r' i made.school place put found rolls (log ∙ ap (λ j. r.log ++ entry_of j made.school ∷ []) own) moved one_more in (
-      moves-after before (moves-refused told.1 away (record { fits = before.fits; gone = hand.gone })),
+      passes-after before (passes-refused told.1 away (record { fits = before.moves.fits; gone = hand.gone })),
       omega (arith, left-refused hand.fits.well_formed told.1.moved),
-      others-refused told.1,
     )

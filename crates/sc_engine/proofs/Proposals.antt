@@ -1,6 +1,6 @@
 -- One proposal: what it keeps, and what it does to the log.
-use Rattle.std.proofs.Common.{◌≡◌, ◌⊎◌, inl, inr, refl, ap, sym, subst, ◌∙◌, ℕ, ◌+◌, ◌≤◌, ◌==◌, nat_eq, Bool, true, false, cond, not, ◌&&◌, ◌||◌, List, ◌∷◌, length, Option, Some, None, All, Contains, is_some, count_by, position, arith}
-use Rattle.std.specs.Option.{option_map_or}
+use Rattle.std.proofs.Common.{◌≡◌, ◌⊎◌, inl, inr, refl, ap, sym, subst, ◌∙◌, ℕ, ◌+◌, ◌≤◌, ◌==◌, nat_eq, Bool, true, false, cond, not, ◌&&◌, ◌||◌, List, [], ◌∷◌, ◌++◌, length, Option, Some, None, All, Contains, is_some, count_by, position, arith}
+use Rattle.std.specs.Option.{option_map_or, option_to_list}
 use Rattle.std.proofs.lemmas.Bool.{cases_eq, eq-eqb, ne_eqb, and_left, and_right, or_right, false_from_ne_true}
 use Rattle.std.proofs.lemmas.Option.{same_Some, none-some}
 use Rattle.std.proofs.lemmas.List.Elements.{All-cons, All-tail}
@@ -9,8 +9,9 @@ use Rattle.sc_papers.specs.Chain.{and_one}
 use Rattle.sc_papers.specs.Market.{Market, students_of, schools_of}
 use Rattle.sc_papers.specs.Key.{key_of, is_before}
 use Rattle.sc_papers.specs.Matching.{Matching, how_many, has}
+use Rattle.sc_papers.specs.Progress.{placed}
 use Rattle.sc_papers.specs.WellFormed.{WellFormed, WithinLimits}
-use Rattle.std.proofs.lemmas.List.Sums.{count_by-le-length}
+use Rattle.std.proofs.lemmas.List.Sums.{count_by-le-length, sum_by-cons}
 use Rattle.sc_papers.specs.declared.records.Student.{Student}
 use Rattle.sc_papers.specs.declared.key.Key.{Key}
 use Rattle.sc_papers.specs.declared.rejection.Rejection.{Rejection}
@@ -23,7 +24,7 @@ use Rattle.sc_seats.specs.Roll.{RollView, Refuses}
 use Rattle.sc_engine.specs.RoundView.{RoundView, next_of, roll_of, roll_at, RollFits, FitsBut, IsAway, IsPutOut, except, only, nobody, without, standing_but, CountsProposals, OffersAt}
 use Rattle.sc_engine.proofs.Tables.{length-mapped, next-among, roll-at, roll-kept}
 use Rattle.sc_engine.proofs.RollCounts.{IsCounted, counted, fits-counted, key-student}
-use Rattle.sc_engine.proofs.Rolls.{on-roll, roll-fits_still, counts-held, counts-offered}
+use Rattle.sc_engine.proofs.Rolls.{on-roll, roll-fits_still, counts-offered}
 
 -- who has a school that is not s has not s
 pub has-not : (a : Matching) (s t i : ℕ) → a i ≡ Some s → (t ≡ s → ⊥) → has a t i ≡ false
@@ -73,6 +74,9 @@ back-only i = λ t j. and-not (j == i) t
 
 pub only-other : (i out : ℕ) → and_one (without (only i) i) out ≡ only out
 only-other i out = λ t j. ap (λ b. b || j == out) (and-not (j == i)) t
+
+pub only-away : {m : Market} {r : RoundView} {i : ℕ} → FitsBut m r (only i) → IsAway m r (only i) i
+only-away {i = i} fits = record { fits = fits; gone = eq-eqb i i refl }
 
 -- what is asked of a student's place, where those who are away are left out
 pub asked-except : (test : Option ℕ → Bool) → test None ≡ false → (away : ℕ → Bool) (a : Matching) (j : ℕ) → test (except away a j) ≡ (test (a j) && not (away j))
@@ -193,10 +197,6 @@ module _ {m : Market} {r : RoundView} {away : ℕ → Bool} {proposer s at : ℕ
 pub counted-ended : (m : Market) (r : RoundView) (away : ℕ → Bool) (proposer : ℕ) → away proposer ≡ true → next_of m r.ranks proposer ≡ None → CountsProposals m r away r (without away proposer)
 counted-ended m r away proposer gone none = ap (λ n. r.proposals + (length r.log + n)) (standing-alike (differ-without away proposer gone) m r.ranks none)
 
-pub counted-held : (m : Market) (r r' : RoundView) (away : ℕ → Bool) (proposer s : ℕ) → WellFormed m → away proposer ≡ true → next_of m r.ranks proposer ≡ Some s → r'.ranks ≡ r.ranks → r'.log ≡ r.log → r'.proposals ≡ r.proposals + 1 → CountsProposals m r away r' (without away proposer)
-counted-held m r r' away proposer s well gone stands same_ranks same_log one_more =
-    omega (arith, one_more, standing-split (differ-without away proposer gone) m well r.ranks s stands, ap (λ ranks. standing_but m ranks (without away proposer)) same_ranks, ap (λ (l : List Rejection). length l) same_log)
-
 -- a round whose rolls alone are others
 fits-rolls : (m : Market) (r r' : RoundView) (away after : ℕ → Bool) → FitsBut m r away → r'.ranks ≡ r.ranks → length r'.rolls ≡ length r.rolls → ((t : ℕ) → RollFits m (except after (next_of m r.ranks)) t (roll_of m r'.rolls t)) → CountsProposals m r away r' after → FitsBut m r' after
 fits-rolls m r r' away after fits same same_length each counted = record {
@@ -208,21 +208,6 @@ fits-rolls m r r' away after fits same same_length each counted = record {
   proposals = counted-within m r away r' after counted fits.proposals;
 }
 
--- nobody is put out: the roll had room
-pub fits-held : (m : Market) (r r' : RoundView) (away : ℕ → Bool) (proposer s at : ℕ) → Proposed m r away proposer s at r'.rolls None → r'.ranks ≡ r.ranks → CountsProposals m r away r' (without away proposer) → FitsBut m r' (without away proposer)
-fits-held m r r' away proposer s at done same counted =
-    let next : Matching = next_of m r.ranks in
-    let differ = differ-without away proposer done.hand.gone in
-    fits-rolls m r r' away (without away proposer) done.hand.fits same done.offered.same_length
-    (rolls-offered done (without away proposer) (λ t apart. has-alike differ next t (has-not next s t proposer done.stands apart))
-    (All-permutation (λ k. k ≡ key_of m k.student s) (key_of m proposer s ∷ (roll_at r.rolls at).keys) (roll_at r'.rolls at).keys done.offered.together (keyed-offered done))
-    (λ p.
-    let now : count_by (λ (k : Key). p k.student) (roll_at r'.rolls at).keys ≡ cond (p proposer) 1 0 + count_by (λ (k : Key). p k.student) (roll_at r.rolls at).keys =
-    counts-held p (key_of m proposer s) (roll_at r.rolls at).keys (roll_at r'.rolls at).keys done.offered.together ∙ ap (λ i. cond (p i) 1 0 + count_by (λ (k : Key). p k.student) (roll_at r.rolls at).keys) (key-student m proposer s) in
-    let split = split-except differ m done.hand.fits.well_formed p next s (next-among m r.ranks proposer s done.stands) done.stands in
-    omega (arith, now, split, (roll-before_counted done).exact p)))
-    counted
-
 -- the student in hand has no choice left
 pub fits-ended : (m : Market) (r : RoundView) (away : ℕ → Bool) (proposer : ℕ) → IsAway m r away proposer → next_of m r.ranks proposer ≡ None → FitsBut m r (without away proposer)
 fits-ended m r away proposer hand none =
@@ -233,30 +218,28 @@ fits-ended m r away proposer hand none =
     (counted-ended m r away proposer hand.gone none)
 
 -- the student who is put out was on the roll or is the one in hand, and the roll would refuse them now
-pub record Out (m : Market) (r : RoundView) (away : ℕ → Bool) (proposer s : ℕ) (rolls : List RollView) (out : Key) : Type 0 where
+pub record Out (m : Market) (r r' : RoundView) (away : ℕ → Bool) (proposer s : ℕ) (out : Key) : Type 0 where
   pub stands : next_of m r.ranks out.student ≡ Some s
-  pub own : out ≡ key_of m out.student s
   pub here : without away proposer out.student ≡ false
-  pub refused : IsPutOut m (record r { rolls = rolls }) (record { student = out.student; school = s })
+  pub refused : IsPutOut m r' (record { student = out.student; school = s })
 
-pub put-out : (m : Market) (r : RoundView) (away : ℕ → Bool) (proposer s at : ℕ) (rolls : List RollView) (out : Key) → Proposed m r away proposer s at rolls (Some out) → Out m r away proposer s rolls out
-put-out m r away proposer s at rolls out done = record {
+pub put-out : {m : Market} {r : RoundView} {away : ℕ → Bool} {proposer s at : ℕ} {out : Key} (r' : RoundView) → Proposed m r away proposer s at r'.rolls (Some out) → r'.ranks ≡ r.ranks → Out m r r' away proposer s out
+put-out {m} {r} {away} {proposer} {s} {at} {out} r' done same_ranks = record {
   stands = stands;
-  own = own;
   here = (elim from [
     | inl is_hand ↦ ap (without away proposer) (ap (λ (k : Key). k.student) (sym is_hand) ∙ key-student m proposer s) ∙ (differ-without away proposer done.hand.gone).here
     | inr held ↦ and_left (away out.student) (not (out.student == proposer)) (on-old held).0
   ]);
   refused = record {
-    stands = stands;
+    stands = ap (λ ranks. next_of m ranks out.student) same_ranks ∙ stands;
     refused = subst (λ (roll : RollView). Refuses roll.keys roll.seats (key_of m out.student s)) (sym (roll-after done)) (record {
       full = omega (
         arith,
-        length_permutation (key_of m proposer s ∷ old.keys) (out ∷ (roll_at rolls at).keys) done.offered.together,
+        length_permutation (key_of m proposer s ∷ old.keys) (out ∷ (roll_at r'.rolls at).keys) done.offered.together,
         done.offered.full refl,
         done.offered.seats,
       );
-      behind = subst (λ k. All (λ held. is_before held k ≡ true) (roll_at rolls at).keys) own done.offered.last;
+      behind = subst (λ k. All (λ held. is_before held k ≡ true) (roll_at r'.rolls at).keys) own done.offered.last;
     });
   };
 }
@@ -269,8 +252,8 @@ put-out m r away proposer s at rolls out done = record {
 
     from : (key_of m proposer s ≡ out) ⊎ Contains old.keys out
     from = contains-cons (key_of m proposer s) old.keys out
-        (Contains-permutation (out ∷ (roll_at rolls at).keys) (key_of m proposer s ∷ old.keys) out
-        (IsPermutation-sym (key_of m proposer s ∷ old.keys) (out ∷ (roll_at rolls at).keys) done.offered.together) (contains-head out (roll_at rolls at).keys))
+        (Contains-permutation (out ∷ (roll_at r'.rolls at).keys) (key_of m proposer s ∷ old.keys) out
+        (IsPermutation-sym (key_of m proposer s ∷ old.keys) (out ∷ (roll_at r'.rolls at).keys) done.offered.together) (contains-head out (roll_at r'.rolls at).keys))
 
     -- who was on the roll stood there, and was not away
     on-old : Contains old.keys out → (away out.student ≡ false) × (next out.student ≡ Some s)
@@ -292,34 +275,57 @@ put-out m r away proposer s at rolls out done = record {
       | inr held ↦ (on-roll m (except away next) s old out (roll-before done) held).own
     ]
 
--- a student is put out, whose rejection is not noted yet
-pub counted-exchanged : (m : Market) (r r' : RoundView) (away : ℕ → Bool) (proposer s : ℕ) (rolls : List RollView) (out : Key) → WellFormed m → away proposer ≡ true → next_of m r.ranks proposer ≡ Some s → Out m r away proposer s rolls out → r'.ranks ≡ r.ranks → r'.log ≡ r.log → r'.proposals ≡ r.proposals → CountsProposals m r away r' (and_one (without away proposer) out.student)
-counted-exchanged m r r' away proposer s rolls out well gone stands put same_ranks same_log same =
-    omega (
-      arith,
-      same,
-      standing-split (differ-without away proposer gone) m well r.ranks s stands,
-      standing-split (differ-with (without away proposer) out.student put.here) m well r.ranks s put.stands,
-      ap (λ ranks. standing_but m ranks (and_one (without away proposer) out.student)) same_ranks,
-      ap (λ (l : List Rejection). length l) same_log,
-    )
+-- whoever is put out is away as well, and nobody else
+pub record GoesToo (m : Market) (next : Matching) (back after : ℕ → Bool) (s : ℕ) (out : List Key) : Type 0 where
+  pub others : (t : ℕ) → (t ≡ s → ⊥) → (j : ℕ) → has (except back next) t j ≡ has (except after next) t j
+  pub counts : (p : ℕ → Bool) → how_many m (λ j. p j && has (except back next) s j) ≡ count_by (λ (k : Key). p k.student) out + how_many m (λ j. p j && has (except after next) s j)
+  pub standing : placed m (except back next) ≡ length out + placed m (except after next)
 
-pub fits-exchanged : (m : Market) (r r' : RoundView) (away : ℕ → Bool) (proposer s at : ℕ) (out : Key) → Proposed m r away proposer s at r'.rolls (Some out) → Out m r away proposer s r'.rolls out → r'.ranks ≡ r.ranks → CountsProposals m r away r' (and_one (without away proposer) out.student) → FitsBut m r' (and_one (without away proposer) out.student)
-fits-exchanged m r r' away proposer s at out done put same exactly =
+pub nobody-goes : (m : Market) (next : Matching) (back : ℕ → Bool) (s : ℕ) → GoesToo m next back back s []
+nobody-goes m next back s = record { others = λ t apart j. refl; counts = λ p. omega arith; standing = omega arith }
+
+pub one-goes : {m : Market} {r r' : RoundView} {away : ℕ → Bool} {proposer s : ℕ} {out : Key} → WellFormed m → Out m r r' away proposer s out
+    → GoesToo m (next_of m r.ranks) (without away proposer) (and_one (without away proposer) out.student) s (out ∷ [])
+one-goes {m} {r} {r'} {away} {proposer} {s} {out} well put =
     let next : Matching = next_of m r.ranks in
-    let back : ℕ → Bool = without away proposer in
-    let after : ℕ → Bool = and_one back out.student in
-    let first = differ-without away proposer done.hand.gone in
-    let second = differ-with back out.student put.here in
-    fits-rolls m r r' away after done.hand.fits same done.offered.same_length
-    (rolls-offered done after
-    (λ t apart j. has-alike first next t (has-not next s t proposer done.stands apart) j ∙ sym (has-alike second next t (has-not next s t out.student put.stands apart) j))
-    (All-tail (λ k. k ≡ key_of m k.student s) out (roll_at r'.rolls at).keys
-    (All-permutation (λ k. k ≡ key_of m k.student s) (key_of m proposer s ∷ (roll_at r.rolls at).keys) (out ∷ (roll_at r'.rolls at).keys) done.offered.together (keyed-offered done)))
-    (λ p.
-    let now = counts-offered p (key_of m proposer s) out (roll_at r.rolls at).keys (roll_at r'.rolls at).keys done.offered.together in
-    let hand_term = ap {B = ℕ} (λ j. cond (p j) 1 0) (key-student m proposer s) in
-    let by_hand = split-except first m done.hand.fits.well_formed p next s (next-among m r.ranks proposer s done.stands) done.stands in
-    let by_out = split-except second m done.hand.fits.well_formed p next s (next-among m r.ranks out.student s put.stands) put.stands in
-    omega (arith, now, hand_term, by_hand, by_out, (roll-before_counted done).exact p)))
-    exactly
+    let differ = differ-with (without away proposer) out.student put.here in
+    record {
+      others = λ t apart j. sym (has-alike differ next t (has-not next s t out.student put.stands apart) j);
+      counts = λ p. omega (arith, split-except differ m well p next s (next-among m r.ranks out.student s put.stands) put.stands, sum_by-cons (λ (k : Key). cond (p k.student) 1 0) out []);
+      standing = omega (arith, standing-split differ m well r.ranks s put.stands);
+    }
+
+module _ {m : Market} {r : RoundView} {away : ℕ → Bool} {proposer s at : ℕ} {out : Option Key} (r' : RoundView) (done : Proposed m r away proposer s at r'.rolls out) (same_ranks : r'.ranks ≡ r.ranks) (same_log : r'.log ≡ r.log)
+    (one_more : r'.proposals + length (option_to_list out) ≡ r.proposals + 1) (after : ℕ → Bool) (goes : GoesToo m (next_of m r.ranks) (without away proposer) after s (option_to_list out)) where
+  pub counted-offered : CountsProposals m r away r' after
+  counted-offered =
+      omega (
+        arith,
+        one_more,
+        standing-split (differ-without away proposer done.hand.gone) m done.hand.fits.well_formed r.ranks s done.stands,
+        goes.standing,
+        ap (λ ranks. standing_but m ranks after) same_ranks,
+        ap (λ (l : List Rejection). length l) same_log,
+      )
+
+  pub fits-offered : FitsBut m r' after
+  fits-offered =
+      let next : Matching = next_of m r.ranks in
+      let key : Key = key_of m proposer s in
+      let differ = differ-without away proposer done.hand.gone in
+      fits-rolls m r r' away after done.hand.fits same_ranks done.offered.same_length
+      (rolls-offered done after (λ t apart j. has-alike differ next t (has-not next s t proposer done.stands apart) j ∙ goes.others t apart j)
+      (those-left out (roll_at r'.rolls at).keys (All-permutation (λ k. k ≡ key_of m k.student s) (key ∷ (roll_at r.rolls at).keys) (option_to_list out ++ (roll_at r'.rolls at).keys) done.offered.together (keyed-offered done)))
+      (λ p. omega (
+        arith,
+        counts-offered p key (option_to_list out) (roll_at r.rolls at).keys (roll_at r'.rolls at).keys done.offered.together,
+        ap {B = ℕ} (λ j. cond (p j) 1 0) (key-student m proposer s),
+        split-except differ m done.hand.fits.well_formed p next s (next-among m r.ranks proposer s done.stands) done.stands,
+        goes.counts p,
+        (roll-before_counted done).exact p,
+      )))
+      counted-offered
+    where
+      those-left : (one : Option Key) (keys : List Key) → All (λ k. k ≡ key_of m k.student s) (option_to_list one ++ keys) → All (λ k. k ≡ key_of m k.student s) keys
+      those-left None keys own = own
+      those-left (Some k) keys own = All-tail (λ k. k ≡ key_of m k.student s) k keys own

@@ -5,18 +5,20 @@ use Rattle.sc_papers.specs.Key.{key_of}
 use Rattle.sc_papers.specs.Market.{Market, choices_of, schools_of, seats_of, student_at}
 use Rattle.sc_papers.specs.Matching.{Matching, held}
 use Rattle.sc_papers.specs.declared.proposal.Proposal.{Proposal}
-use Rattle.sc_engine.specs.RoundView.{RoundView, rank_of, next_of, Fits, FitsBut, only, roll_at, RollFits, StandsToo}
+use Rattle.sc_papers.proofs.Hands.{student-there}
+use Rattle.sc_engine.specs.RoundView.{RoundView, rank_of, next_of, Fits, FitsBut, only, roll_at, without, RollFits, StandsToo}
 use Rattle.sc_engine.proofs.Tables.{roll-at, next-by}
 use Rattle.sc_engine.proofs.Rolls.{roll-length}
-use Rattle.sc_engine.proofs.Proposals.{Proposed, back-only, fits-held, fits-ended, counted-held}
+use Rattle.sc_engine.proofs.Proposals.{Proposed, back-only, fits-ended, fits-offered, nobody-goes}
 use Rattle.sc_engine.proofs.Beginning.{Begun, away-begun, rank-begun, next-others, entered-begun}
 
 -- the student stands at the choice of their rank
-pub next-begun : {m : Market} {r r' : RoundView} {i at rank : ℕ} → Begun m r r' i at rank → (choice : Option ℕ) → slice_get (choices_of m i) rank ≡ choice → next_of m r'.ranks i ≡ choice
-next-begun {m} {r} {r'} {i} {at} {rank} begun choice here = next-by m r'.ranks i rank (rank-begun begun) ∙ here
+pub next-begun : {m : Market} {r r' : RoundView} {i at rank : ℕ} → Begun m r r' i at rank → (choice : Option ℕ) → slice_get (choices_of m (student_at m at)) rank ≡ choice → next_of m r'.ranks i ≡ choice
+next-begun {m} {r} {r'} {i} {at} {rank} begun choice here =
+    next-by m r'.ranks i rank (rank-begun begun) ∙ ap (λ j. slice_get (choices_of m j) rank) (sym (student-there m i at begun.student)) ∙ here
 
 -- a student who has no choice left is on no roll
-pub put-nowhere : {m : Market} {r r' : RoundView} {i at rank : ℕ} → Begun m r r' i at rank → (choice : Option ℕ) → slice_get (choices_of m i) rank ≡ choice → choice ≡ None → StandsToo m r r' i choice
+pub put-nowhere : {m : Market} {r r' : RoundView} {i at rank : ℕ} → Begun m r r' i at rank → (choice : Option ℕ) → slice_get (choices_of m (student_at m at)) rank ≡ choice → choice ≡ None → StandsToo m r r' i choice
 put-nowhere {m} {r} {r'} {i} begun choice here none = record {
   fits = subst (FitsBut m r') (back-only i) (fits-ended m r' (only i) i (away-begun begun) (next-begun begun choice here ∙ none));
   entered = entered-begun begun;
@@ -50,7 +52,7 @@ roll-open m r s at fits school room =
     )
 
 -- a student who is put on the roll of their school, where nobody is put out
-pub put-on_roll : {m : Market} {r r' : RoundView} {i at rank : ℕ} → Begun m r r' i at rank → (r'' : RoundView) (choice : Option ℕ) (s school : ℕ) → slice_get (choices_of m i) rank ≡ choice → choice ≡ Some s → Proposed m r' (only i) i s school r''.rolls None → r''.ranks ≡ r'.ranks → r''.log ≡ r'.log → r''.proposals ≡ r'.proposals → StandsToo m r r'' i choice
+pub put-on_roll : {m : Market} {r r' : RoundView} {i at rank : ℕ} → Begun m r r' i at rank → (r'' : RoundView) (choice : Option ℕ) (s school : ℕ) → slice_get (choices_of m (student_at m at)) rank ≡ choice → choice ≡ Some s → Proposed m r' (only i) i s school r''.rolls None → r''.ranks ≡ r'.ranks → r''.log ≡ r'.log → r''.proposals ≡ r'.proposals → StandsToo m r r'' i choice
 put-on_roll {m} {r} {r'} {i} begun r'' choice s school here is done same_ranks same_log same_proposals = record {
   fits = record {
     well_formed = counted_fits.well_formed;
@@ -72,5 +74,4 @@ put-on_roll {m} {r} {r'} {i} begun r'' choice s school here is done same_ranks s
     counted = record r'' { proposals = r'.proposals + 1 }
 
     counted_fits : Fits m counted
-    counted_fits = subst (FitsBut m counted) (back-only i) (fits-held m r' counted (only i) i s school done same_ranks
-        (counted-held m r' counted (only i) i s done.hand.fits.well_formed done.hand.gone done.stands same_ranks same_log refl))
+    counted_fits = subst (FitsBut m counted) (back-only i) (fits-offered counted done same_ranks same_log (omega arith) (without (only i) i) (nobody-goes m (next_of m r'.ranks) (without (only i) i) s))

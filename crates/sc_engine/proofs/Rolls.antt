@@ -1,10 +1,10 @@
 -- Who is on a roll that fits: exactly the students who have the school.
-use Rattle.std.proofs.Common.{◌≡◌, refl, ap, sym, subst, ◌∙◌, ℕ, ◌+◌, ◌<◌, ◌==◌, Bool, true, cond, ◌&&◌, List, ◌∷◌, length, Some, Contains, count_by, map}
+use Rattle.std.proofs.Common.{◌≡◌, refl, ap, sym, subst, ◌∙◌, ℕ, ◌+◌, ◌<◌, ◌==◌, Bool, true, cond, ◌&&◌, List, ◌∷◌, ◌++◌, length, Some, Contains, count_by, map}
 use Rattle.std.specs.List.Sorted.{IsPermutation}
 use Rattle.std.proofs.lemmas.Bool.{eqb-true, eq-eqb, and_parts, and_from}
 use Rattle.std.proofs.lemmas.List.Elements.{All-contains, filter_agree}
 use Rattle.std.proofs.lemmas.List.Sorted.{sum_by-IsPermutation}
-use Rattle.std.proofs.lemmas.List.Sums.{sum_by-cons}
+use Rattle.std.proofs.lemmas.List.Sums.{sum_by-append, sum_by-cons}
 use Rattle.sc_papers.specs.Market.{Market, students_of}
 use Rattle.sc_papers.specs.Key.{key_of}
 use Rattle.sc_papers.specs.Matching.{Matching, how_many, has}
@@ -58,12 +58,8 @@ roll-fits_still m a b s roll agree fits = record {
 }
 
 -- the counts of a roll after an offer
-pub counts-offered : (p : ℕ → Bool) (key out : Key) (old new : List Key) → IsPermutation (key ∷ old) (out ∷ new) → cond (p out.student) 1 0 + count_by (λ (k : Key). p k.student) new ≡ cond (p key.student) 1 0 + count_by (λ (k : Key). p k.student) old
+pub counts-offered : (p : ℕ → Bool) (key : Key) (out old new : List Key) → IsPermutation (key ∷ old) (out ++ new)
+    → count_by (λ (k : Key). p k.student) out + count_by (λ (k : Key). p k.student) new ≡ cond (p key.student) 1 0 + count_by (λ (k : Key). p k.student) old
 counts-offered p key out old new together =
     let term : Key → ℕ = λ k. cond (p k.student) 1 0 in
-    sym (sum_by-cons term out new) ∙ sum_by-IsPermutation term (key ∷ old) (out ∷ new) together ∙ sum_by-cons term key old
-
-pub counts-held : (p : ℕ → Bool) (key : Key) (old new : List Key) → IsPermutation (key ∷ old) new → count_by (λ (k : Key). p k.student) new ≡ cond (p key.student) 1 0 + count_by (λ (k : Key). p k.student) old
-counts-held p key old new together =
-    let term : Key → ℕ = λ k. cond (p k.student) 1 0 in
-    sum_by-IsPermutation term (key ∷ old) new together ∙ sum_by-cons term key old
+    sym (sum_by-append term out new) ∙ sum_by-IsPermutation term (key ∷ old) (out ++ new) together ∙ sum_by-cons term key old

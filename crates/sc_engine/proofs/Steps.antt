@@ -1,5 +1,6 @@
 -- The steps of proposals: what they do to the round, and to any log that they continue.
 use Rattle.std.proofs.Common.{◌≡◌, inl, inr, refl, ap, sym, subst, ◌∙◌, ℕ, ◌+◌, ◌-◌, ◌<◌, nat_eq, Bool, true, cond, not, ◌&&◌, List, [], ◌∷◌, ◌++◌, length, set, Option, Some, None, is_some, position, slice_get, append_assoc, append-nil, arith, length-set}
+use Rattle.std.specs.Option.{option_map, option_to_list}
 use Rattle.std.proofs.lemmas.Bool.{cases_eq, and_from, and_parts}
 use Rattle.std.proofs.lemmas.Option.{slice_get_within}
 use Rattle.std.proofs.lemmas.List.{length_push}
@@ -21,10 +22,11 @@ use Rattle.sc_papers.proofs.Subsets.{well-restricted}
 use Rattle.sc_papers.proofs.Sums.{sum-bump}
 use Rattle.sc_papers.proofs.Validity.{valid-push}
 use Rattle.sc_seats.specs.Roll.{RollView, Refuses}
-use Rattle.sc_engine.specs.RoundView.{RoundView, rank_of, next_of, has_entered, roll_of, RollFits, FitsBut, Fits, IsAway, IsPutOut, Moves, OthersStay, except, without, CountsProposals, entered_papers, Midway, Continues, choices_left, left_at}
+use Rattle.sc_engine.specs.RoundView.{RoundView, rank_of, next_of, has_entered, roll_of, RollFits, FitsBut, Fits, IsAway, IsPutOut, Moves, Passes, Proposes, except, without, CountsProposals, entered_papers, Midway, Continues, choices_left, left_at}
+use Rattle.sc_engine.proofs.Offers.{others-offered}
 use Rattle.sc_engine.proofs.Tables.{rank-written, rank-kept, next-by, next-kept, next-among, next-entered}
 use Rattle.sc_engine.proofs.Rolls.{roll-fits_still, roll-holds, roll-length}
-use Rattle.sc_engine.proofs.Proposals.{Proposed, Out, has-except, except-alike, standing-others, counted-within, counted-ended, counted-held, counted-exchanged, fits-ended, fits-held, fits-exchanged, put-out}
+use Rattle.sc_engine.proofs.Proposals.{Proposed, has-except, except-alike, standing-others, counted-within, counted-ended, counted-offered, fits-ended, fits-offered, nobody-goes, one-goes, put-out}
 
 -- the same students have entered, in the same papers
 pub papers-same : (m : Market) (old new : List (Option ℕ)) → ((j : ℕ) → has_entered m new j ≡ has_entered m old j) → entered_papers m new ≡ entered_papers m old
@@ -174,20 +176,20 @@ left-refused {m} {r} {r'} {i} {s} {at} {rank} well moved =
     one_less : length (choices_of m i) - rank ≡ 1 + (length (choices_of m i) - (rank + 1))
     one_less = omega (arith, slice_get_within (choices_of m i) rank s moved.choice)
 
-pub moves-refused : {m : Market} {r r' : RoundView} {i s at rank : ℕ} → Refused m r r' i s at rank → (away : ℕ → Bool) → IsAway m r away i → Moves m r away r' away
-moves-refused {m} {r} {r'} {i} {s} refused away hand = record {
-  fits = fits-refused refused away hand;
-  entered = entered-stays refused.moved;
-  midway = midway-refused refused away hand;
-  extends = (entry_of i s ∷ [], refused.moved.log);
-  counted = counted-refused refused away hand;
-  left = omega (arith, left-refused hand.fits.well_formed refused.moved);
-}
-
-pub others-refused : {m : Market} {r r' : RoundView} {i s at rank : ℕ} → Refused m r r' i s at rank → OthersStay m r r' i
-others-refused {m} refused e apart put = record {
-  stands = next-stays refused.moved e.student apart ∙ put.stands;
-  refused = subst (λ (rolls : List RollView). Refuses (roll_of m rolls e.school).keys (roll_of m rolls e.school).seats (key_of m e.student e.school)) (sym refused.rolls) put.refused;
+pub passes-refused : {m : Market} {r r' : RoundView} {i s at rank : ℕ} → Refused m r r' i s at rank → (away : ℕ → Bool) → IsAway m r away i → Passes m r away r' i
+passes-refused {m} {r} {r'} {i} {s} refused away hand = record {
+  moves = record {
+    fits = fits-refused refused away hand;
+    entered = entered-stays refused.moved;
+    midway = midway-refused refused away hand;
+    extends = (entry_of i s ∷ [], refused.moved.log);
+    counted = counted-refused refused away hand;
+    left = omega (arith, left-refused hand.fits.well_formed refused.moved);
+  };
+  others = λ e apart put. record {
+    stands = next-stays refused.moved e.student apart ∙ put.stands;
+    refused = subst (λ (rolls : List RollView). Refuses (roll_of m rolls e.school).keys (roll_of m rolls e.school).seats (key_of m e.student e.school)) (sym refused.rolls) put.refused;
+  };
 }
 
 -- ranks and log stay
@@ -204,22 +206,34 @@ moves-same m r r' away after same_ranks same_log fits counted = record {
   left = omega (arith, ap (choices_left m) same_ranks);
 }
 
--- the roll had room
-pub moves-held : (m : Market) (r r' : RoundView) (away : ℕ → Bool) (proposer s at : ℕ) → Proposed m r away proposer s at r'.rolls None → r'.ranks ≡ r.ranks → r'.log ≡ r.log → r'.proposals ≡ r.proposals + 1 → Moves m r away r' (without away proposer)
-moves-held m r r' away proposer s at done same_ranks same_log one_more =
-    let counted = counted-held m r r' away proposer s done.hand.fits.well_formed done.hand.gone done.stands same_ranks same_log one_more in
-    moves-same m r r' away (without away proposer) same_ranks same_log (fits-held m r r' away proposer s at done same_ranks counted) counted
-
--- a student is put out, which is not noted yet
-pub moves-exchanged : (m : Market) (r r' : RoundView) (away : ℕ → Bool) (proposer s at : ℕ) (out : Key) → Proposed m r away proposer s at r'.rolls (Some out) → r'.ranks ≡ r.ranks → r'.log ≡ r.log → r'.proposals ≡ r.proposals → Moves m r away r' (and_one (without away proposer) out.student)
-moves-exchanged m r r' away proposer s at out done same_ranks same_log same =
-    let put : Out m r away proposer s r'.rolls out = put-out m r away proposer s at r'.rolls out done in
-    let counted = counted-exchanged m r r' away proposer s r'.rolls out done.hand.fits.well_formed done.hand.gone done.stands put same_ranks same_log same in
-    moves-same m r r' away (and_one (without away proposer) out.student) same_ranks same_log (fits-exchanged m r r' away proposer s at out done put same_ranks counted) counted
+-- the student in hand proposes, and somebody is put out or nobody is
+pub proposes-offered : {m : Market} {r : RoundView} {away : ℕ → Bool} {proposer s at : ℕ} (out : Option Key) (r' : RoundView) → Proposed m r away proposer s at r'.rolls out → r'.ranks ≡ r.ranks → r'.log ≡ r.log
+    → r'.proposals + length (option_to_list out) ≡ r.proposals + 1 → Proposes m r away r' proposer (option_map (λ k. entry_of k.student s) out)
+proposes-offered {m} {r} {away} {proposer} {s} {at} None r' done same_ranks same_log one_more =
+    let back : ℕ → Bool = without away proposer in
+    let goes = nobody-goes m (next_of m r.ranks) back s in
+    record {
+      moves = moves-same m r r' away back same_ranks same_log (fits-offered r' done same_ranks same_log one_more back goes) (counted-offered r' done same_ranks same_log one_more back goes);
+      put_out = tt;
+      others = others-offered m r r' at (key_of m proposer s) None done.offered same_ranks proposer;
+    }
+proposes-offered {m} {r} {away} {proposer} {s} {at} (Some out) r' done same_ranks same_log one_more =
+    let after : ℕ → Bool = and_one (without away proposer) out.student in
+    let put = put-out r' done same_ranks in
+    let goes = one-goes done.hand.fits.well_formed put in
+    record {
+      moves = moves-same m r r' away after same_ranks same_log (fits-offered r' done same_ranks same_log one_more after goes) (counted-offered r' done same_ranks same_log one_more after goes);
+      put_out = (put.refused, put.here);
+      others = others-offered m r r' at (key_of m proposer s) (Some out) done.offered same_ranks proposer;
+    }
 
 -- the student in hand has no choice left
-pub moves-ended : (m : Market) (r : RoundView) (away : ℕ → Bool) (proposer : ℕ) → IsAway m r away proposer → next_of m r.ranks proposer ≡ None → Moves m r away r (without away proposer)
-moves-ended m r away proposer hand none = moves-same m r r away (without away proposer) refl refl (fits-ended m r away proposer hand none) (counted-ended m r away proposer hand.gone none)
+pub proposes-ended : (m : Market) (r : RoundView) (away : ℕ → Bool) (proposer : ℕ) → IsAway m r away proposer → next_of m r.ranks proposer ≡ None → Proposes m r away r proposer None
+proposes-ended m r away proposer hand none = record {
+  moves = moves-same m r r away (without away proposer) refl refl (fits-ended m r away proposer hand none) (counted-ended m r away proposer hand.gone none);
+  put_out = tt;
+  others = λ e apart put. put;
+}
 
 -- one after the other
 pub moves-after : {m : Market} {old mid new : RoundView} {away between after : ℕ → Bool} → Moves m old away mid between → Moves m mid between new after → Moves m old away new after
@@ -231,6 +245,12 @@ moves-after {m} {old} {mid} {new} first second = record {
   counted = omega (arith, first.counted, second.counted);
   left = omega (arith, first.left, second.left);
 }
+
+pub passes-after : {m : Market} {old mid new : RoundView} {away : ℕ → Bool} {i : ℕ} → Passes m old away mid i → Passes m mid away new i → Passes m old away new i
+passes-after first second = record { moves = moves-after first.moves second.moves; others = λ e apart put. second.others e apart (first.others e apart put) }
+
+pub proposes-after : {m : Market} {old mid new : RoundView} {away : ℕ → Bool} {i : ℕ} {out : Option Rejection} → Passes m old away mid i → Proposes m mid away new i out → Proposes m old away new i out
+proposes-after first second = record { moves = moves-after first.moves second.moves; put_out = second.put_out; others = λ e apart put. second.others e apart (first.others e apart put) }
 
 -- where nobody is away any more, the log is settled
 pub continues-midway : (m : Market) (r : RoundView) → Fits m r → (earlier : List Rejection) → Midway m earlier r → Continues m earlier r

@@ -16,7 +16,7 @@ use Rattle.sc_papers.proofs.Counting.{contains-cons, contains-head, contains-tai
 use Rattle.sc_papers.proofs.Hands.{student-there}
 use Rattle.sc_papers.proofs.Positions.{any-among}
 use Rattle.sc_papers.proofs.Rejections.{any-push}
-use Rattle.sc_engine.specs.RoundView.{RoundView, FitsBut, HaveEntered, IsAway, IsPutOut, Moves, OthersStay, Proposes, without, without_log}
+use Rattle.sc_engine.specs.RoundView.{RoundView, FitsBut, HaveEntered, IsAway, IsPutOut, Moves, OthersStay, Passes, Proposes, without, without_log}
 use Rattle.sc_engine.specs.Applicants.{numbers_of}
 use Rattle.sc_engine.specs.Together.{all_of, among, Waits}
 use Rattle.sc_engine.specs.declared.applicants.Applicant.{Applicant}
@@ -81,48 +81,43 @@ put_out_away m r hands e outs waits = record {
   gone = any-among (all_of hands (e ∷ outs)) e.student (Contains-append_right hands (map (λ (out : Rejection). out.student) (e ∷ outs)) e.student (contains-head e.student (map (λ (out : Rejection). out.student) outs)));
 }
 
--- a rejection is noted: the student is to propose
-pub waits_noted : (m : Market) (r r' : RoundView) (hands : List ℕ) (e : Rejection) (outs : List Rejection) → Waits m r hands (e ∷ outs)
-    → Moves m r (among (all_of hands (e ∷ outs))) r' (among (all_of hands (e ∷ outs))) → OthersStay m r r' e.student → Waits m r' (e.student ∷ hands) outs
-waits_noted m r r' hands e outs waits moves stay =
-    let differ = IsDistinct-IsPermutation nat_eq nat_eq_equiv.symm (all_of hands (e ∷ outs)) (all_of (e.student ∷ hands) outs) (put-first hands e outs) waits.differ in
-    record {
-      fits = subst (FitsBut m r') (among-permuted (all_of hands (e ∷ outs)) (all_of (e.student ∷ hands) outs) (put-first hands e outs)) moves.fits;
-      entered = λ i. moves.entered i ∙ waits.entered i;
-      differ = differ;
-      put_out = stay-put e.student hands outs stay (first-absent e.student (all_of hands outs) differ) (All-tail (IsPutOut m r) e outs waits.put_out);
-      earlier = waits.earlier;
-      midway = moves.midway waits.earlier waits.midway;
-    }
-
--- the first proposes, and nobody is put out
-pub waits_held : (m : Market) (r r' : RoundView) (i : ℕ) (hands : List ℕ) (outs : List Rejection) → Waits m r (i ∷ hands) outs
-    → Moves m r (among (all_of (i ∷ hands) outs)) r' (without (among (all_of (i ∷ hands) outs)) i) → OthersStay m r r' i → Waits m r' hands outs
-waits_held m r r' i hands outs waits moves stay = record {
-  fits = subst (FitsBut m r') (without-first i (all_of hands outs) waits.differ) moves.fits;
-  entered = λ j. moves.entered j ∙ waits.entered j;
-  differ = IsDistinct-tail nat_eq i (all_of hands outs) waits.differ;
-  put_out = stay-put i hands outs stay (first-absent i (all_of hands outs) waits.differ) waits.put_out;
+-- some move, and afterwards these wait
+waits_moved : {m : Market} {r : RoundView} {hands : List ℕ} {outs : List Rejection} (r' : RoundView) (hands' : List ℕ) (outs' : List Rejection) → Waits m r hands outs
+    → Moves m r (among (all_of hands outs)) r' (among (all_of hands' outs')) → IsDistinct nat_eq (all_of hands' outs') → All (IsPutOut m r') outs' → Waits m r' hands' outs'
+waits_moved r' hands' outs' waits moves differ put_out = record {
+  fits = moves.fits;
+  entered = λ i. moves.entered i ∙ waits.entered i;
+  differ = differ;
+  put_out = put_out;
   earlier = waits.earlier;
   midway = moves.midway waits.earlier waits.midway;
 }
 
--- another is put out, and waits
-pub waits_put_out : (m : Market) (r r' : RoundView) (i : ℕ) (hands : List ℕ) (outs : List Rejection) (out : Rejection) → Waits m r (i ∷ hands) outs
-    → Moves m r (among (all_of (i ∷ hands) outs)) r' (and_one (without (among (all_of (i ∷ hands) outs)) i) out.student) → IsPutOut m r' out → without (among (all_of (i ∷ hands) outs)) i out.student ≡ false
-    → OthersStay m r r' i → Waits m r' hands (outs ++ out ∷ [])
-waits_put_out m r r' i hands outs out waits moves put here stay =
+-- a rejection is noted: the student is to propose
+pub waits_noted : (m : Market) (r r' : RoundView) (hands : List ℕ) (e : Rejection) (outs : List Rejection) → Waits m r hands (e ∷ outs)
+    → Passes m r (among (all_of hands (e ∷ outs))) r' e.student → Waits m r' (e.student ∷ hands) outs
+waits_noted m r r' hands e outs waits passes =
+    let differ = IsDistinct-IsPermutation nat_eq nat_eq_equiv.symm (all_of hands (e ∷ outs)) (all_of (e.student ∷ hands) outs) (put-first hands e outs) waits.differ in
+    waits_moved r' (e.student ∷ hands) outs waits
+    (subst (Moves m r (among (all_of hands (e ∷ outs))) r') (among-permuted (all_of hands (e ∷ outs)) (all_of (e.student ∷ hands) outs) (put-first hands e outs)) passes.moves)
+    differ (stay-put e.student hands outs passes.others (first-absent e.student (all_of hands outs) differ) (All-tail (IsPutOut m r) e outs waits.put_out))
+
+-- the first proposes, and perhaps another is put out, who waits
+pub waits_proposed : (m : Market) (r r' : RoundView) (i : ℕ) (hands : List ℕ) (outs : List Rejection) (out : Option Rejection) → Waits m r (i ∷ hands) outs
+    → Proposes m r (among (all_of (i ∷ hands) outs)) r' i out → Waits m r' hands (outs ++ option_to_list out)
+waits_proposed m r r' i hands outs None waits told =
+    let rest : List ℕ = all_of hands outs in
+    subst (Waits m r' hands) (sym (append-nil outs))
+    (waits_moved r' hands outs waits (subst (Moves m r (among (i ∷ rest)) r') (without-first i rest waits.differ) told.moves)
+    (IsDistinct-tail nat_eq i rest waits.differ) (stay-put i hands outs told.others (first-absent i rest waits.differ) waits.put_out))
+waits_proposed m r r' i hands outs (Some out) waits told =
     let rest : List ℕ = all_of hands outs in
     let more : all_of hands (outs ++ out ∷ []) ≡ rest ++ out.student ∷ [] = ap (λ l. hands ++ l) (map-append (λ (o : Rejection). o.student) outs (out ∷ [])) ∙ sym (append_assoc hands (map (λ (o : Rejection). o.student) outs) (out.student ∷ [])) in
     let left : without (among (i ∷ rest)) i ≡ among rest = without-first i rest waits.differ in
-    record {
-      fits = subst (FitsBut m r') (ap (λ away. and_one away out.student) left ∙ (λ t j. sym (any-push (nat_eq j) rest out.student) t) ∙ ap among (sym more)) moves.fits;
-      entered = λ j. moves.entered j ∙ waits.entered j;
-      differ = subst (IsDistinct nat_eq) (sym more) (IsDistinct-push nat_eq_equiv rest out.student (IsDistinct-tail nat_eq i rest waits.differ) (sym (ap (λ (away : ℕ → Bool). away out.student) left) ∙ here));
-      put_out = All-append (IsPutOut m r') outs (out ∷ []) (stay-put i hands outs stay (first-absent i rest waits.differ) waits.put_out) (All-cons (IsPutOut m r') out [] put (All-nil (IsPutOut m r')));
-      earlier = waits.earlier;
-      midway = moves.midway waits.earlier waits.midway;
-    }
+    waits_moved r' hands (outs ++ out ∷ []) waits
+    (subst (Moves m r (among (i ∷ rest)) r') (ap (λ away. and_one away out.student) left ∙ (λ t j. sym (any-push (nat_eq j) rest out.student) t) ∙ ap among (sym more)) told.moves)
+    (subst (IsDistinct nat_eq) (sym more) (IsDistinct-push nat_eq_equiv rest out.student (IsDistinct-tail nat_eq i rest waits.differ) (sym (ap (λ (away : ℕ → Bool). away out.student) left) ∙ told.put_out.1)))
+    (All-append (IsPutOut m r') outs (out ∷ []) (stay-put i hands outs told.others (first-absent i rest waits.differ) waits.put_out) (All-cons (IsPutOut m r') out [] told.put_out.0 (All-nil (IsPutOut m r'))))
 
 -- the log is forgotten
 pub waits_forgotten : (m : Market) (r : RoundView) (hands : List ℕ) (outs : List Rejection) → Waits m r hands outs → Waits m (without_log r) hands outs
@@ -144,25 +139,16 @@ waits_done m r waits = record {
   continues = continues-midway m r waits.fits waits.earlier waits.midway;
 }
 
--- what one proposal makes of those who wait
-pub waits_proposed : (m : Market) (r r' : RoundView) (i : ℕ) (hands : List ℕ) (outs : List Rejection) (out : Option Rejection) → Waits m r (i ∷ hands) outs
-    → Proposes m r (among (all_of (i ∷ hands) outs)) r' i out → OthersStay m r r' i → Waits m (without_log r') hands (outs ++ option_to_list out)
-waits_proposed m r r' i hands outs None waits told stay =
-    waits_forgotten m r' hands (outs ++ []) (subst (Waits m r' hands) (sym (append-nil outs)) (waits_held m r r' i hands outs waits told stay))
-waits_proposed m r r' i hands outs (Some out) waits told stay =
-    waits_forgotten m r' hands (outs ++ out ∷ []) (waits_put_out m r r' i hands outs out waits told.0 told.1 told.2 stay)
-
 -- those who are left of some applicants
 pub applicants-left : (m : Market) (applicants : List Applicant) (k : ℕ) (d : Applicant) → k < length applicants → numbers_of m (drop k applicants) ≡ student_at m (get_or applicants k d).position ∷ numbers_of m (drop (k + 1) applicants)
 applicants-left m applicants k d low = ap (numbers_of m) (drop_more applicants k d low)
 
 -- the rejection of the first of them is noted, who is to propose
 pub waits_noted_first : (m : Market) (r r' : RoundView) (hands : List ℕ) (e : Rejection) (outs : List Rejection) (at : ℕ) → position (nat_eq e.student) (students_of m) ≡ Some at
-    → ((away : ℕ → Bool) → IsAway m r away e.student → Moves m r away r' away) → OthersStay m r r' e.student
-    → Waits m r hands (e ∷ outs) → Waits m r' (student_at m at ∷ hands) outs
-waits_noted_first m r r' hands e outs at found moves stay waits =
+    → ((away : ℕ → Bool) → IsAway m r away e.student → Passes m r away r' e.student) → Waits m r hands (e ∷ outs) → Waits m r' (student_at m at ∷ hands) outs
+waits_noted_first m r r' hands e outs at found passes waits =
     subst (λ (i : ℕ). Waits m r' (i ∷ hands) outs) (sym (student-there m e.student at found))
-    (waits_noted m r r' hands e outs waits (moves (among (all_of hands (e ∷ outs))) (put_out_away m r hands e outs waits)) stay)
+    (waits_noted m r r' hands e outs waits (passes (among (all_of hands (e ∷ outs))) (put_out_away m r hands e outs waits)))
 
 -- a list of no length has no items
 pub no-items : {X : Type 0} (xs : List X) → length xs < 1 → xs ≡ []

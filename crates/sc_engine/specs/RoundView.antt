@@ -181,11 +181,21 @@ pub record Moves (m : Market) (old : RoundView) (away : ℕ → Bool) (new : Rou
 abbrev pub without : (ℕ → Bool) → ℕ → ℕ → Bool
 without away i = λ j. away j && not (j == i)
 
--- what one proposal does: the student who proposes is away no longer, and whoever is put out is
-abbrev pub Proposes : Market → RoundView → (ℕ → Bool) → RoundView → ℕ → Option Rejection → Type 0
-Proposes m old away new proposer None = Moves m old away new (without away proposer)
-Proposes m old away new proposer (Some out) =
-    Moves m old away new (and_one (without away proposer) out.student) × IsPutOut m new out × (without away proposer out.student ≡ false)
+-- what a student who is away does who passes on choices, and whoever else is away stays so
+pub record Passes (m : Market) (old : RoundView) (away : ℕ → Bool) (new : RoundView) (i : ℕ) : Type 0 where
+  pub moves : Moves m old away new away
+  pub others : OthersStay m old new i
+
+-- who is away after a proposal: the student who proposes no longer, and whoever is put out
+abbrev pub away_after : (ℕ → Bool) → ℕ → Option Rejection → ℕ → Bool
+away_after away proposer None = without away proposer
+away_after away proposer (Some out) = and_one (without away proposer) out.student
+
+-- what one proposal does
+pub record Proposes (m : Market) (old : RoundView) (away : ℕ → Bool) (new : RoundView) (proposer : ℕ) (out : Option Rejection) : Type 0 where
+  pub moves : Moves m old away new (away_after away proposer out)
+  pub put_out : IfSome out (λ entry. IsPutOut m new entry × (without away proposer entry.student ≡ false))
+  pub others : OthersStay m old new proposer
 
 -- the round fits the papers, and the student at a position of the order of entry is yet to enter
 pub record IsYetToEnter (m : Market) (r : RoundView) (at : ℕ) : Type 0 where

@@ -1,10 +1,10 @@
 //! Chains of proposals, by which students enter a round.
 
-ghost use Rattle.std.specs.Prelude.{◌≡◌, ℕ, ◌+◌, ◌^◌, ◌<◌, ◌≤◌, Bool, [], ◌∷◌, ◌++◌, None, Some, length, nat_eq, position, slice_index_or, slice_set, IfOk, OnOk};
+ghost use Rattle.std.specs.Prelude.{◌≡◌, ℕ, ◌+◌, ◌^◌, ◌<◌, Bool, [], ◌∷◌, ◌++◌, None, Some, length, nat_eq, position, slice_index_or, slice_set, IfOk, OnOk};
 ghost use Rattle.std.specs.Option.{option_map};
 ghost use Rattle.sc_papers.specs.Market.{student_at, students_of};
 ghost use Rattle.sc_engine.specs.Proposals.{IsProposal};
-ghost use Rattle.sc_engine.specs.RoundView.{next_of, choices_left, FitsBut, IsAway, IsPutOut, IsSomeAway, IsYetToEnter, Enters, Moves, OthersStay, Proposes, nobody, only};
+ghost use Rattle.sc_engine.specs.RoundView.{next_of, choices_left, FitsBut, IsAway, IsPutOut, IsSomeAway, IsYetToEnter, Enters, Moves, Passes, Proposes, nobody, only};
 
 use super::Round;
 use super::ranks::{position_near, proposal_of};
@@ -56,9 +56,8 @@ impl<R: Roll> Round<R> {
         requires away { IsSomeAway papers.now (view_of R.keys R.seats self.old) (student_at papers.now proposer) }
         ensures passed { OnOk result ((away : ℕ → Bool)
             → IsAway papers.now (view_of R.keys R.seats self.old) away (student_at papers.now proposer)
-            → Moves papers.now (view_of R.keys R.seats self.old) away (view_of R.keys R.seats self.new) away) }
-        ensures others { OnOk result (OthersStay papers.now (view_of R.keys R.seats self.old)
-            (view_of R.keys R.seats self.new) (student_at papers.now proposer)) }
+            → Passes papers.now (view_of R.keys R.seats self.old) away (view_of R.keys R.seats self.new)
+            (student_at papers.now proposer)) }
         ensures next { IfOk result (IsProposal papers.now (student_at papers.now proposer)
             (next_of papers.now self.new.ranks (student_at papers.now proposer))) }
     {
@@ -82,14 +81,10 @@ impl<R: Roll> Round<R> {
     ) -> Result<Option<PutOut>, AllocError>
         requires within { proposer < length papers.now.students }
         requires away { IsSomeAway papers.now (view_of R.keys R.seats self.old) (student_at papers.now proposer) }
-        ensures proposes { IfOk result (λ out. (away : ℕ → Bool)
+        ensures { IfOk result (λ out. (away : ℕ → Bool)
             → IsAway papers.now (view_of R.keys R.seats self.old) away (student_at papers.now proposer)
             → Proposes papers.now (view_of R.keys R.seats self.old) away (view_of R.keys R.seats self.new)
             (student_at papers.now proposer) (option_map (λ o. o.entry) out)) }
-        ensures others { OnOk result (OthersStay papers.now (view_of R.keys R.seats self.old)
-            (view_of R.keys R.seats self.new) (student_at papers.now proposer)) }
-        ensures left { OnOk result (choices_left papers.now self.new.ranks
-            ≤ choices_left papers.now self.old.ranks) }
     {
         let Some(proposal) = self.next_open(papers, proposer)? else {
             return Ok(None);
@@ -114,9 +109,8 @@ impl<R: Roll> Round<R> {
         ensures found { IfOk result (λ at. position (nat_eq out.entry.student) (students_of papers.now) ≡ Some at) }
         ensures noted { OnOk result ((away : ℕ → Bool)
             → IsAway papers.now (view_of R.keys R.seats self.old) away out.entry.student
-            → Moves papers.now (view_of R.keys R.seats self.old) away (view_of R.keys R.seats self.new) away) }
-        ensures others { OnOk result (OthersStay papers.now (view_of R.keys R.seats self.old)
-            (view_of R.keys R.seats self.new) out.entry.student) }
+            → Passes papers.now (view_of R.keys R.seats self.old) away (view_of R.keys R.seats self.new)
+            out.entry.student) }
         ensures left { OnOk result (choices_left papers.now self.new.ranks
             < choices_left papers.now self.old.ranks) }
     {

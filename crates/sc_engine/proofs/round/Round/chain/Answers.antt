@@ -6,9 +6,9 @@ use Rattle.sc_papers.specs.declared.records.Student.{Student}
 use Rattle.sc_papers.proofs.Hands.{student-there}
 use Rattle.sc_papers.proofs.Positions.{position-at}
 use Rattle.sc_engine.specs.Round.{view_of}
-use Rattle.sc_engine.specs.RoundView.{only, IsAway, Moves, Proposes}
+use Rattle.sc_engine.specs.RoundView.{only, Moves, Proposes}
 use Rattle.sc_engine.specs.declared.round.chains.PutOut.{PutOut}
-use Rattle.sc_engine.proofs.Proposals.{back-only, only-other}
+use Rattle.sc_engine.proofs.Proposals.{back-only, only-away, only-other}
 use Rattle.sc_engine.proofs.Steps.{moves-after}
 use Rattle.sc_engine.proofs.Tables.{length-mapped}
 use Rattle.sc_engine.proofs.round.Round.chain.Goals as goal
@@ -21,14 +21,16 @@ loop-out-preserved g c =
     let new = view_of g.R.Roll.keys g.R.Roll.seats c.note.new.self in
     let proposer : ℕ = student_at papers c.loop-out.proposer in
     let out : ℕ = c.in-Some.out.entry.student in
-    let hand : IsAway papers old (only proposer) proposer = record { fits = c.loop-out.invariant.1.fits; gone = eq-eqb proposer proposer refl } in
-    let (moves, put, here) = subst (λ (o : Option PutOut). Proposes papers old (only proposer) mid proposer (option_map (λ one. one.entry) o)) c.in-Some.is (c.in_ok-out.ensures.proposes (only proposer) hand) in
-    let goes : Moves papers old (only proposer) mid (only out) = subst (Moves papers old (only proposer) mid) (only-other proposer out) moves in
-    let noted : Moves papers mid (only out) new (only out) = c.in_ok-proposer.ensures.noted (only out) (record { fits = goes.fits; gone = eq-eqb out out refl }) in (
+    let proposed = subst (λ (o : Option PutOut). Proposes papers old (only proposer) mid proposer (option_map (λ one. one.entry) o)) c.in-Some.is (c.in_ok-out.ensures (only proposer) (only-away c.loop-out.invariant.1.fits)) in
+    let goes : Moves papers old (only proposer) mid (only out) = subst (Moves papers old (only proposer) mid) (only-other proposer out) proposed.moves in
+    let noted = c.in_ok-proposer.ensures.noted (only out) (only-away goes.fits) in (
       omega (arith, (position-at (students_of papers) out c.in_ok-proposer.proposer c.in_ok-proposer.ensures.found).0, length-mapped (λ (e : ℕ × Student). e.0) papers.students),
       subst (λ i. Moves papers (view_of g.R.Roll.keys g.R.Roll.seats c.args.self.now) (only (student_at papers c.args.first)) new (only i)) (sym (student-there papers out c.in_ok-proposer.proposer c.in_ok-proposer.ensures.found))
-          (moves-after c.loop-out.invariant.1 (moves-after goes noted)),
+          (moves-after c.loop-out.invariant.1 (moves-after goes noted.moves)),
     )
+
+pub loop-out-smaller : goal.loop-out-smaller
+loop-out-smaller g c = omega (arith, c.in_ok-proposer.ensures.left, (c.in_ok-out.ensures _ (only-away c.loop-out.invariant.1.fits)).moves.left)
 
 pub returns : goal.returns
 returns g c =
@@ -36,7 +38,6 @@ returns g c =
     let old = view_of g.R.Roll.keys g.R.Roll.seats c.loop-out.self in
     let new = view_of g.R.Roll.keys g.R.Roll.seats c.propose.new.self in
     let proposer : ℕ = student_at papers c.loop-out.proposer in
-    let hand : IsAway papers old (only proposer) proposer = record { fits = c.loop-out.invariant.1.fits; gone = eq-eqb proposer proposer refl } in
     moves-after c.loop-out.invariant.1
     (subst (Moves papers old (only proposer) new) (back-only proposer)
-    (subst (λ (o : Option PutOut). Proposes papers old (only proposer) new proposer (option_map (λ one. one.entry) o)) c.in_default.is (c.in_ok-out.ensures.proposes (only proposer) hand)))
+    (subst (λ (o : Option PutOut). Proposes papers old (only proposer) new proposer (option_map (λ one. one.entry) o)) c.in_default.is (c.in_ok-out.ensures (only proposer) (only-away c.loop-out.invariant.1.fits))).moves)

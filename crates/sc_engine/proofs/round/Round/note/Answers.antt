@@ -4,7 +4,7 @@ use Rattle.sc_engine.specs.Rolls.{rolls_of}
 use Rattle.sc_engine.proofs.Moves.{refused-told}
 use Rattle.sc_engine.proofs.Papers.{stander-short, stander-student}
 use Rattle.sc_engine.proofs.Proposals.{standing-most}
-use Rattle.sc_engine.proofs.Steps.{Refused, left-refused, moves-refused, others-refused}
+use Rattle.sc_engine.proofs.Steps.{Refused, left-refused, passes-refused}
 use Rattle.sc_engine.proofs.Tables.{rank-at}
 use Rattle.sc_engine.proofs.round.Round.note.Given as given
 use Rattle.sc_engine.proofs.round.Round.note.Goals as goal
@@ -29,10 +29,7 @@ noted g c =
     c.requires.out c.position_near-at.ensures (ap (rolls_of g.R.Roll.keys g.R.Roll.seats) c.reject.ensures.rolls) c.in_ok-reject.ensures.log c.in_ok-reject.ensures.moved c.in_ok-reject.ensures.proposals
 
 pub returns-clause-noted : goal.returns-clause-noted
-returns-clause-noted g c away hand = moves-refused (noted g c).1 away hand
+returns-clause-noted g c away hand = passes-refused (noted g c).1 away hand
 
 pub returns-clause-left : goal.returns-clause-left
 returns-clause-left g c = omega (arith, left-refused c.requires.away.1.fits.well_formed (noted g c).1.moved)
-
-pub returns-clause-others : goal.returns-clause-others
-returns-clause-others g c = others-refused (noted g c).1

@@ -1,88 +1,63 @@
-use Rattle.std.proofs.Common.{ℕ, ap, refl, subst, sym, ◌∙◌, ◌+◌, None, Some, arith}
+use Rattle.std.proofs.Common.{◌≡◌, ℕ, Bool, ap, refl, subst, sym, ◌∙◌, ◌+◌, Option, None, Some, arith}
 use Rattle.std.specs.Option.{option_map}
 use Rattle.sc_papers.specs.Market.{student_at}
 use Rattle.sc_papers.specs.declared.key.Key.{Key}
 use Rattle.sc_papers.specs.declared.proposal.Proposal.{Proposal}
 use Rattle.sc_engine.specs.Proposals.{IsProposal}
 use Rattle.sc_engine.specs.Round.{view_of}
-use Rattle.sc_engine.specs.RoundView.{next_of, RoundView}
+use Rattle.sc_engine.specs.RoundView.{next_of, IsAway, RoundView}
 use Rattle.sc_engine.specs.Rolls.{rolls_of}
 use Rattle.sc_engine.proofs.Moves.{proposed-told, roll-new}
-use Rattle.sc_engine.proofs.Offers.{others-offered}
-use Rattle.sc_engine.proofs.Proposals.{Proposed, put-out, standing-most}
-use Rattle.sc_engine.proofs.Steps.{moves-after, moves-ended, moves-exchanged, moves-held}
+use Rattle.sc_engine.proofs.Proposals.{Proposed, standing-most}
+use Rattle.sc_engine.proofs.Steps.{proposes-after, proposes-ended, proposes-offered}
+use Rattle.sc_engine.proofs.round.Round.propose.Given as given
 use Rattle.sc_engine.proofs.round.Round.propose.Goals as goal
+use Rattle.sc_engine.proofs.round.Round.propose.Goals.{In-Some, In_ok-out}
 
-pub returns-in_default-clause-proposes : goal.returns-in_default-clause-proposes
-returns-in_default-clause-proposes g c away hand =
-    let papers = c.args.papers.now in
-    let proposer : ℕ = student_at papers c.args.proposer in
-    let mid = view_of g.R.Roll.keys g.R.Roll.seats c.next_open.new.self in
+-- the student proposes as the papers tell
+made : (g : given.Over) (c : In-Some g) → IsProposal c.args.papers.now (student_at c.args.papers.now c.args.proposer) (next_of c.args.papers.now c.next_open.new.self.ranks (student_at c.args.papers.now c.args.proposer)) (Some c.in-Some.proposal)
+made g c =
+    let i : ℕ = student_at c.args.papers.now c.args.proposer in
+    subst (IsProposal c.args.papers.now i (next_of c.args.papers.now c.next_open.new.self.ranks i)) c.in-Some.is c.in_ok-proposal.ensures.next
+
+-- and the roll answers
+proposed : (g : given.Over) (c : In_ok-out g) (away : ℕ → Bool) → IsAway c.args.papers.now (view_of g.R.Roll.keys g.R.Roll.seats c.args.self.now) away (student_at c.args.papers.now c.args.proposer)
+    → IsProposal c.args.papers.now (student_at c.args.papers.now c.args.proposer) (next_of c.args.papers.now c.next_open.new.self.ranks (student_at c.args.papers.now c.args.proposer)) (Some c.in-Some.proposal)
+    → (out : Option Key) → c.in_ok-out.field-0 ≡ out
+    → Proposed c.args.papers.now (view_of g.R.Roll.keys g.R.Roll.seats c.next_open.new.self) away (student_at c.args.papers.now c.args.proposer) c.in-Some.proposal.school c.in-Some.proposal.position (rolls_of g.R.Roll.keys g.R.Roll.seats c.offer_to.new.rolls.items) out
+proposed g c away hand made out is =
+    proposed-told c.args.papers.now (view_of g.R.Roll.keys g.R.Roll.seats c.next_open.new.self) away (student_at c.args.papers.now c.args.proposer) c.in-Some.proposal.school c.in-Some.proposal.position c.of-offered.result (rolls_of g.R.Roll.keys g.R.Roll.seats c.offer_to.new.rolls.items) c.in_ok-out.field-0 out
+    (record { fits = (c.in_ok-proposal.ensures.passed away hand).moves.fits; gone = hand.gone }) (sym made.school) made.position (c.of-offered.ensures ∙ made.key) c.in_ok-out.ensures is
+
+pub returns-in_default : goal.returns-in_default
+returns-in_default g c away hand =
     let first = c.in_ok-proposal.ensures.passed away hand in
-    moves-after first (moves-ended papers mid away proposer (record { fits = first.fits; gone = hand.gone })
+    proposes-after first (proposes-ended c.args.papers.now (view_of g.R.Roll.keys g.R.Roll.seats c.next_open.new.self) away (student_at c.args.papers.now c.args.proposer) (record { fits = first.moves.fits; gone = hand.gone })
     (sym c.in_ok-proposal.ensures.next.school ∙ ap (option_map (λ (p : Proposal). p.school)) c.in_default.is))
 
 pub offer_to-requires-clause-new : goal.offer_to-requires-clause-new
 offer_to-requires-clause-new g c =
-    let papers = c.args.papers.now in
-    let proposer : ℕ = student_at papers c.args.proposer in
-    let mid = view_of g.R.Roll.keys g.R.Roll.seats c.next_open.new.self in
     let (away, hand) = c.requires.away in
-    let made : IsProposal papers proposer (next_of papers mid.ranks proposer) (Some c.in-Some.proposal) = subst (IsProposal papers proposer (next_of papers mid.ranks proposer)) c.in-Some.is c.in_ok-proposal.ensures.next in
-    roll-new papers mid away proposer c.in-Some.proposal.school c.in-Some.proposal.position c.of-offered.result (record { fits = (c.in_ok-proposal.ensures.passed away hand).fits; gone = hand.gone }) made.position (c.of-offered.ensures ∙ made.key)
+    let told = made g (goal.at.offer_to-requires-clause-new g c).In-Some in
+    roll-new c.args.papers.now (view_of g.R.Roll.keys g.R.Roll.seats c.next_open.new.self) away (student_at c.args.papers.now c.args.proposer) c.in-Some.proposal.school c.in-Some.proposal.position c.of-offered.result
+    (record { fits = (c.in_ok-proposal.ensures.passed away hand).moves.fits; gone = hand.gone }) told.position (c.of-offered.ensures ∙ told.key)
 
 pub overflow_add-self : goal.overflow_add-self
 overflow_add-self g c =
     let (away, hand) = c.requires.away in
-    omega (arith, (c.in_ok-proposal.ensures.passed away hand).fits.proposals, standing-most c.args.papers.now c.next_open.new.self.ranks away hand.fits.within_limits, c.next_open.new.self.log.small, c.next_open.new.self.log.ok)
+    omega (arith, (c.in_ok-proposal.ensures.passed away hand).moves.fits.proposals, standing-most c.args.papers.now c.next_open.new.self.ranks away hand.fits.within_limits, c.next_open.new.self.log.small, c.next_open.new.self.log.ok)
 
-pub returns-in_default-2-clause-proposes : goal.returns-in_default-2-clause-proposes
-returns-in_default-2-clause-proposes g c away hand =
-    let papers = c.args.papers.now in
-    let proposer : ℕ = student_at papers c.args.proposer in
+pub returns-in_default-2 : goal.returns-in_default-2
+returns-in_default-2 g c away hand =
     let mid : RoundView = view_of g.R.Roll.keys g.R.Roll.seats c.next_open.new.self in
-    let rolls = rolls_of g.R.Roll.keys g.R.Roll.seats c.offer_to.new.rolls.items in
-    let first = c.in_ok-proposal.ensures.passed away hand in
-    let made : IsProposal papers proposer (next_of papers mid.ranks proposer) (Some c.in-Some.proposal) = subst (IsProposal papers proposer (next_of papers mid.ranks proposer)) c.in-Some.is c.in_ok-proposal.ensures.next in
-    moves-after first (moves-held papers mid (record mid { rolls = rolls; proposals = mid.proposals + 1 }) away proposer c.in-Some.proposal.school c.in-Some.proposal.position
-    (proposed-told papers mid away proposer c.in-Some.proposal.school c.in-Some.proposal.position c.of-offered.result rolls c.in_ok-out.field-0 None (record { fits = first.fits; gone = hand.gone }) (sym made.school) made.position (c.of-offered.ensures ∙ made.key) c.in_ok-out.ensures c.in_default-2.is)
-    refl refl refl)
+    let at = goal.at.returns-in_default-2 g c in
+    proposes-after (c.in_ok-proposal.ensures.passed away hand)
+    (proposes-offered None (record mid { rolls = rolls_of g.R.Roll.keys g.R.Roll.seats c.offer_to.new.rolls.items; proposals = mid.proposals + 1 }) (proposed g at.In_ok-out away hand (made g at.In-Some) None c.in_default-2.is) refl refl (omega arith))
 
-pub returns-clause-proposes : goal.returns-clause-proposes
-returns-clause-proposes g c away hand =
-    let papers = c.args.papers.now in
-    let proposer : ℕ = student_at papers c.args.proposer in
+pub returns : goal.returns
+returns g c away hand =
     let mid : RoundView = view_of g.R.Roll.keys g.R.Roll.seats c.next_open.new.self in
-    let rolls = rolls_of g.R.Roll.keys g.R.Roll.seats c.offer_to.new.rolls.items in
-    let first = c.in_ok-proposal.ensures.passed away hand in
-    let out : Key = c.key-student.result in
-    let made : IsProposal papers proposer (next_of papers mid.ranks proposer) (Some c.in-Some.proposal) = subst (IsProposal papers proposer (next_of papers mid.ranks proposer)) c.in-Some.is c.in_ok-proposal.ensures.next in
-    let done : Proposed papers mid away proposer c.in-Some.proposal.school c.in-Some.proposal.position rolls (Some out) =
-    proposed-told papers mid away proposer c.in-Some.proposal.school c.in-Some.proposal.position c.of-offered.result rolls c.in_ok-out.field-0 (Some out) (record { fits = first.fits; gone = hand.gone }) (sym made.school) made.position (c.of-offered.ensures ∙ made.key) c.in_ok-out.ensures
-    (c.in-Some-2.is ∙ ap Some (sym c.key-student.ensures)) in
-    let put = put-out papers mid away proposer c.in-Some.proposal.school c.in-Some.proposal.position rolls out done in (
-      moves-after first (moves-exchanged papers mid (record mid { rolls = rolls }) away proposer c.in-Some.proposal.school c.in-Some.proposal.position out done refl refl refl),
-      put.refused,
-      put.here,
-    )
-
-pub returns-in_default-2-clause-others : goal.returns-in_default-2-clause-others
-returns-in_default-2-clause-others g c e apart put =
-    let mid : RoundView = view_of g.R.Roll.keys g.R.Roll.seats c.next_open.new.self in
-    others-offered c.args.papers.now mid (record mid { rolls = rolls_of g.R.Roll.keys g.R.Roll.seats c.offer_to.new.rolls.items; proposals = mid.proposals + 1 }) c.in-Some.proposal.position c.of-offered.result c.in_ok-out.field-0 c.in_ok-out.ensures refl (student_at c.args.papers.now c.args.proposer) e apart
-    (c.in_ok-proposal.ensures.others e apart put)
-
-pub returns-clause-others : goal.returns-clause-others
-returns-clause-others g c e apart put =
-    let mid : RoundView = view_of g.R.Roll.keys g.R.Roll.seats c.next_open.new.self in
-    others-offered c.args.papers.now mid (record mid { rolls = rolls_of g.R.Roll.keys g.R.Roll.seats c.offer_to.new.rolls.items }) c.in-Some.proposal.position c.of-offered.result c.in_ok-out.field-0 c.in_ok-out.ensures refl (student_at c.args.papers.now c.args.proposer) e apart
-    (c.in_ok-proposal.ensures.others e apart put)
-
-pub returns-in_default-clause-left : goal.returns-in_default-clause-left
-returns-in_default-clause-left g c = (c.in_ok-proposal.ensures.passed c.requires.away.0 c.requires.away.1).left
-
-pub returns-in_default-2-clause-left : goal.returns-in_default-2-clause-left
-returns-in_default-2-clause-left g c = (c.in_ok-proposal.ensures.passed c.requires.away.0 c.requires.away.1).left
-
-pub returns-clause-left : goal.returns-clause-left
-returns-clause-left g c = (c.in_ok-proposal.ensures.passed c.requires.away.0 c.requires.away.1).left
+    let at = goal.at.returns g c in
+    proposes-after (c.in_ok-proposal.ensures.passed away hand)
+    (proposes-offered (Some c.key-student.result) (record mid { rolls = rolls_of g.R.Roll.keys g.R.Roll.seats c.offer_to.new.rolls.items })
+    (proposed g at.In_ok-out away hand (made g at.In-Some) (Some c.key-student.result) (c.in-Some-2.is ∙ ap Some (sym c.key-student.ensures))) refl refl (omega arith))
