@@ -17,8 +17,8 @@ use Rattle.sc_papers.proofs.Validity.{along}
 use Rattle.sc_engine.specs.RoundView.{RoundView, rank_of, next_of, has_entered, FitsBut, Fits, IsAway, except, only, nobody, entered_papers, Continues, Midway, Moves, Enters, CountsProposals, Extends, RollFits, roll_of}
 use Rattle.sc_engine.proofs.Tables.{rank-apart, rank-at, next-by, next-none}
 use Rattle.sc_engine.proofs.Tables as tables
-use Rattle.sc_engine.proofs.Rolls.{roll-fits_still}
-use Rattle.sc_engine.proofs.Proposals.{differ-only, except-alike, has-alike, has-none, or-same, standing-alike, standing-others, counted-within}
+use Rattle.sc_engine.proofs.Rolls.{fits-again, roll-fits_still}
+use Rattle.sc_engine.proofs.Proposals.{differ-only, except-alike, has-alike, has-none, only-away, or-same, standing-alike, standing-others, counted-within}
 use Rattle.sc_engine.proofs.Steps.{continues-midway}
 
 -- the student goes to a rank of their choices, with nothing else changed
@@ -71,18 +71,14 @@ stand-alike {m} {r} {r'} {i} begun t j =
 
 -- the rolls still fit, with the student away
 pub fits-begun : {m : Market} {r r' : RoundView} {i at rank : ℕ} → Begun m r r' i at rank → FitsBut m r' (only i)
-fits-begun {m} {r} {r'} {i} {at} {rank} begun = record {
-  well_formed = begun.fits.well_formed;
-  within_limits = begun.fits.within_limits;
-  ranks = begun.within;
-  rolls = ap length begun.rolls ∙ begun.fits.rolls;
-  each = λ t. subst (λ rolls. RollFits m (except (only i) (next_of m r'.ranks)) t (roll_of m rolls t)) (sym begun.rolls)
-      (roll-fits_still m (next_of m r.ranks) (except (only i) (next_of m r'.ranks)) t (roll_of m r.rolls t) (stand-alike begun t) (begun.fits.each t));
-  proposals = counted-within m r nobody r' (only i) (counted-begun begun) begun.fits.proposals;
-}
+fits-begun {m} {r} {r'} {i} {at} {rank} begun =
+    fits-again r' (except (only i) (next_of m r'.ranks)) begun.fits begun.within (ap length begun.rolls)
+    (λ t. subst (λ rolls. RollFits m (except (only i) (next_of m r'.ranks)) t (roll_of m rolls t)) (sym begun.rolls)
+    (roll-fits_still m (next_of m r.ranks) (except (only i) (next_of m r'.ranks)) t (roll_of m r.rolls t) (stand-alike begun t) (begun.fits.each t)))
+    (counted-within m r nobody r' (only i) (counted-begun begun) begun.fits.proposals)
 
 pub away-begun : {m : Market} {r r' : RoundView} {i at rank : ℕ} → Begun m r r' i at rank → IsAway m r' (only i) i
-away-begun {m} {r} {r'} {i} begun = record { fits = fits-begun begun; gone = eq-eqb i i refl }
+away-begun begun = only-away (fits-begun begun)
 
 -- a log that is settled for those who have entered rejects nobody else
 record RejectsNo (i : ℕ) (log : List Rejection) : Type 0 where

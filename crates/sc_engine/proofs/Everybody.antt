@@ -20,7 +20,7 @@ use Rattle.sc_engine.specs.Together.{among, Waits}
 use Rattle.sc_engine.specs.declared.applicants.Applicant.{Applicant}
 use Rattle.sc_engine.proofs.Beginning.{first-choice}
 use Rattle.sc_engine.proofs.Proposals.{has-none}
-use Rattle.sc_engine.proofs.Rolls.{roll-fits_still}
+use Rattle.sc_engine.proofs.Rolls.{fits-again, roll-fits_still}
 use Rattle.sc_engine.proofs.Tables.{length-mapped, next-by, next-none}
 
 -- the students in order of entry, moved
@@ -50,17 +50,11 @@ first-rank m i = go (position (nat_eq i) (students_of m)) refl
 pub waits_first : (m : Market) (old : RoundView) (applicants : List Applicant) → Fits m old → ((i : ℕ) → has_entered m old.ranks i ≡ false) → old.log ≡ [] → old.proposals ≡ 0 → AreEverybody m applicants
     → Waits m (record old { ranks = replicate (length m.students) (Some 0) }) (numbers_of m applicants) []
 waits_first m old applicants fits nobody no_log none everybody = record {
-  fits = record {
-    well_formed = fits.well_formed;
-    within_limits = fits.within_limits;
-    ranks = omega (arith, length-replicate (length m.students) first);
-    rolls = fits.rolls;
-    each = λ t. roll-fits_still m (next_of m old.ranks) (except (among hands) (next_of m ranks)) t (roll_of m old.rolls t)
-        (λ j. has-none (next_of m old.ranks) t j (next-none m old.ranks j (is_some-false (rank_of m old.ranks j) (nobody j)))
-        ∙ sym (has-none (except (among hands) (next_of m ranks)) t j (away j)))
-        (fits.each t);
-    proposals = omega (arith, none);
-  };
+  fits = fits-again (record old { ranks = ranks }) (except (among hands) (next_of m ranks)) fits (omega (arith, length-replicate (length m.students) first)) refl
+      (λ t. roll-fits_still m (next_of m old.ranks) (except (among hands) (next_of m ranks)) t (roll_of m old.rolls t)
+      (λ j. has-none (next_of m old.ranks) t j (next-none m old.ranks j (is_some-false (rank_of m old.ranks j) (nobody j))) ∙ sym (has-none (except (among hands) (next_of m ranks)) t j (away j)))
+      (fits.each t))
+      (omega (arith, none));
   entered = λ i. elim (first-rank m i) [ inl (is, rank) ↦ ap is_some rank ∙ sym is | inr (is, rank) ↦ ap is_some rank ∙ sym is ];
   differ = IsDistinct-IsPermutation nat_eq nat_eq_equiv.symm (students_of m) hands moved fits.well_formed.students_differ;
   put_out = λ k d low. absurd (omega (arith, low));

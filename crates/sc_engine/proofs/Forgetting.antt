@@ -1,20 +1,14 @@
 -- A round that forgets its log goes on from where its students stand.
-use Rattle.std.proofs.Common.{◌≡◌, ap, sym, subst, ◌∙◌, ℕ, Bool, List, [], ◌++◌, arith}
+use Rattle.std.proofs.Common.{◌≡◌, refl, ap, sym, subst, ◌∙◌, ℕ, Bool, List, [], ◌++◌, arith}
 use Rattle.std.proofs.lemmas.List.{append-nil}
 use Rattle.sc_papers.specs.Log.{next_choice, IsSettled, IsValidLog}
 use Rattle.sc_papers.specs.Market.{Market}
 use Rattle.sc_papers.specs.declared.rejection.Rejection.{Rejection}
-use Rattle.sc_engine.specs.RoundView.{RoundView, Continues, Fits, FitsBut, Midway, entered_papers, nobody, without_log}
+use Rattle.sc_engine.specs.RoundView.{RoundView, Continues, Fits, FitsBut, Midway, entered_papers, except, next_of, nobody, without_log}
+use Rattle.sc_engine.proofs.Rolls.{fits-again}
 
 pub fits_but-without_log : (m : Market) (r : RoundView) (away : ℕ → Bool) → FitsBut m r away → FitsBut m (without_log r) away
-fits_but-without_log m r away fits = record {
-  well_formed = fits.well_formed;
-  within_limits = fits.within_limits;
-  ranks = fits.ranks;
-  rolls = fits.rolls;
-  each = fits.each;
-  proposals = omega arith;
-}
+fits_but-without_log m r away fits = fits-again (without_log r) (except away (next_of m r.ranks)) fits fits.ranks refl fits.each (omega arith)
 
 pub fits-without_log : (m : Market) (r : RoundView) → Fits m r → Fits m (without_log r)
 fits-without_log m r fits = fits_but-without_log m r nobody fits

@@ -4,6 +4,7 @@ use Rattle.std.specs.Option.{option_map, option_map_or, unwrap_or}
 use Rattle.std.proofs.lemmas.Bool.{cases_Bool, cases_eq, false≢true, and_right}
 use Rattle.std.proofs.lemmas.List.{take_more}
 use Rattle.std.proofs.lemmas.List.Elements.{Contains-append_left, Contains-get_or, Contains-push, Contains-push_cases}
+use Rattle.std.proofs.lemmas.Option.{none-some}
 use Rattle.sc_papers.specs.Key.{key_of}
 use Rattle.sc_papers.specs.Market.{Market, choices_of, schools_of, student_at, students_of}
 use Rattle.sc_papers.specs.Matching.{has}
@@ -19,13 +20,15 @@ use Rattle.sc_papers.proofs.Rejections.{has-agree, has-true}
 use Rattle.sc_papers.proofs.Students.{how_many-none}
 use Rattle.sc_seats.specs.Roll.{RollView}
 use Rattle.sc_engine.specs.Leaving.{AreEmptied, AreWithin, Leave, SomeStands, StandAt, StandsThere}
+use Rattle.sc_engine.specs.Noted.{AreWritten}
 use Rattle.sc_engine.specs.Proposals.{IsProposal}
 use Rattle.sc_engine.specs.RoundView.{Fits, RollFits, RoundView, next_of, no_roll, rank_of, roll_at, roll_of}
 use Rattle.sc_engine.proofs.Offers.{roll_at-mapped}
 use Rattle.sc_engine.proofs.Proposals.{has-none}
 use Rattle.sc_engine.proofs.Renewing.{roll_set_other, roll_set_same}
 use Rattle.sc_engine.proofs.RollCounts.{fits-counted}
-use Rattle.sc_engine.proofs.Rolls.{roll-fits_still, roll-holds}
+use Rattle.sc_engine.proofs.Rolls.{fits-again, roll-fits_where, roll-holds}
+use Rattle.sc_engine.proofs.Starting.{no-rank}
 use Rattle.sc_engine.proofs.Tables.{length-mapped, next-among, next-kept, next-none, position-of, rank-alike, roll-at, stands-at}
 
 -- what is among the first of some positions is among one more of them, and of these nothing else is but the last
@@ -151,58 +154,51 @@ empty-roll roll key none held = empty (subst (λ keys. Contains keys key) none h
     empty : Contains [] key → ⊥
     empty (k, low, at) = omega (arith, low)
 
-module _ (m : Market) (test : ℕ → Bool) (positions : List ℕ) (at : StandAt m test positions) (apart : AreApart m test) (old new : RoundView)
-    (fits : Fits m old) (quiet : old.proposals ≡ 0) (rolls : AreEmptied m old.ranks positions old.rolls new.rolls)
-    (gone : (p : ℕ) → Contains positions p → get_or new.ranks p None ≡ None) (stay : (p : ℕ) → (Contains positions p → ⊥) → get_or new.ranks p None ≡ get_or old.ranks p None)
-    (long : length new.ranks ≡ length old.ranks) (log : new.log ≡ old.log) (proposals : new.proposals ≡ old.proposals) where
-  -- who passes has no rank any more
-  rank-gone : (i : ℕ) → test i ≡ true → rank_of m new.ranks i ≡ None
-  unfolding rank_of
-  rank-gone i passes = go (position (nat_eq i) (students_of m)) refl
-    where
-      go : (o : Option ℕ) → position (nat_eq i) (students_of m) ≡ o → option_map_or (λ p. get_or new.ranks p None) o None ≡ None
-      go None is = refl
-      go (Some p) is = gone p ((at.exact p i (position-there (students_of m) i p is)).1 passes)
-
-  rank-stays : (i : ℕ) → test i ≡ false → rank_of m new.ranks i ≡ rank_of m old.ranks i
-  rank-stays i fails = rank-alike m new.ranks old.ranks i (λ p is. stay p (λ among. false≢true (sym fails ∙ (at.exact p i (position-there (students_of m) i p is)).0 among)))
-
-  next-gone : (i : ℕ) → test i ≡ true → next_of m new.ranks i ≡ None
-  next-gone i passes = next-none m new.ranks i (rank-gone i passes)
-
-  next-stays : (i : ℕ) → test i ≡ false → next_of m new.ranks i ≡ next_of m old.ranks i
-  next-stays i fails = next-kept m old.ranks new.ranks i (rank-stays i fails)
-
+module _ {m : Market} {test : ℕ → Bool} {positions : List ℕ} (at : StandAt m test positions) where
   -- one of the positions is that of who passes and stands at a school
-  there : (i s k : ℕ) → test i ≡ true → next_of m old.ranks i ≡ Some s → position (nat_eq s) (schools_of m) ≡ Some k → SomeStands m old.ranks positions k
-  there i s k passes next school =
-      let stood = stands-at m old.ranks i s next in
-      let where_is = position-of m old.ranks i stood.rank stood.entered in
+  pub some-stands : (ranks : List (Option ℕ)) (i s k : ℕ) → test i ≡ true → next_of m ranks i ≡ Some s → position (nat_eq s) (schools_of m) ≡ Some k → SomeStands m ranks positions k
+  some-stands ranks i s k passes next school =
+      let stood = stands-at m ranks i s next in
+      let where_is = position-of m ranks i stood.rank stood.entered in
       record {
         p = where_is.at;
         among = (at.exact where_is.at i (position-there (students_of m) i where_is.at where_is.found)).1 passes;
         there = record { student = i; school = s; found = where_is.found; next = next; at = school };
       }
 
+  -- who passes stands as in the table that is told, and all others as before
+  module _ (told : List (Option ℕ)) {old new : List (Option ℕ)} (written : AreWritten positions (λ p. get_or told p None) old new) where
+    pub rank-taken : (i : ℕ) → test i ≡ true → rank_of m new i ≡ rank_of m told i
+    rank-taken i passes = rank-alike m new told i (λ p is. written.taken p ((at.exact p i (position-there (students_of m) i p is)).1 passes))
+
+    pub rank-stays : (i : ℕ) → test i ≡ false → rank_of m new i ≡ rank_of m old i
+    rank-stays i fails = rank-alike m new old i (λ p is. written.stay p (λ among. false≢true (sym fails ∙ (at.exact p i (position-there (students_of m) i p is)).0 among)))
+
+    pub next-stays : (i : ℕ) → test i ≡ false → next_of m new i ≡ next_of m old i
+    next-stays i fails = next-kept m old new i (rank-stays i fails)
+
+module _ (m : Market) (test : ℕ → Bool) (positions : List ℕ) (at : StandAt m test positions) (apart : AreApart m test) (old new : RoundView)
+    (fits : Fits m old) (quiet : old.proposals ≡ 0) (rolls : AreEmptied m old.ranks positions old.rolls new.rolls)
+    (written : AreWritten positions (λ p. None) old.ranks new.ranks) (log : new.log ≡ old.log) (proposals : new.proposals ≡ old.proposals) where
+  rank-gone : (i : ℕ) → test i ≡ true → rank_of m new.ranks i ≡ None
+  rank-gone i passes = rank-taken at [] written i passes ∙ no-rank m [] (λ p. refl) i
+
+  next-gone : (i : ℕ) → test i ≡ true → next_of m new.ranks i ≡ None
+  next-gone i passes = next-none m new.ranks i (rank-gone i passes)
+
   -- a roll that stays fits, where nobody who passes stood there
   fits-same : (s : ℕ) (roll : RollView) → RollFits m (next_of m old.ranks) s roll → ((j : ℕ) → test j ≡ true → next_of m old.ranks j ≡ Some s → ⊥) → RollFits m (next_of m new.ranks) s roll
-  fits-same s roll before nobody_stood = roll-fits_still m (next_of m old.ranks) (next_of m new.ranks) s roll alike before
-    where
-      alike : (j : ℕ) → has (next_of m old.ranks) s j ≡ has (next_of m new.ranks) s j
-      alike j = elim (cases_Bool (test j)) [
-        | inl passes ↦ elim (cases_Bool (has (next_of m old.ranks) s j)) [
-          | inl holds ↦ absurd (nobody_stood j passes (has-true (next_of m old.ranks) s j holds))
-          | inr fails_there ↦ fails_there ∙ sym (has-none (next_of m new.ranks) s j (next-gone j passes))
-        ]
-        | inr fails ↦ has-agree (next_of m old.ranks) (next_of m new.ranks) s j (sym (next-stays j fails))
-      ]
+  fits-same s roll before nobody_stood = roll-fits_where m (next_of m old.ranks) (next_of m new.ranks) s roll (λ j stands. elim (cases_Bool (test j)) [
+    | inl passes ↦ absurd (elim stands [ inl stood ↦ nobody_stood j passes stood | inr now ↦ none-some s (sym (next-gone j passes) ∙ now) ])
+    | inr fails ↦ sym (next-stays at [] written j fails)
+  ]) before
 
   fits-stayed : (s k : ℕ) → position (nat_eq s) (schools_of m) ≡ Some k → roll_at new.rolls k ≡ roll_at old.rolls k → RollFits m (next_of m new.ranks) s (roll_at new.rolls k)
   fits-stayed s k school same =
       let before : RollFits m (next_of m old.ranks) s (roll_at old.rolls k) = subst (RollFits m (next_of m old.ranks) s) (roll-at m old.rolls s k school) (fits.each s) in
       subst (RollFits m (next_of m new.ranks) s) (sym same)
       (fits-same s (roll_at old.rolls k) before (λ j passes next.
-      let some = there j s k passes next school in
+      let some = some-stands at old.ranks j s k passes next school in
       empty-roll (roll_at new.rolls k) (key_of m j s) (rolls.done some.p k some.among some.there)
       (subst (λ (roll : RollView). Contains roll.keys (key_of m j s)) (sym same) (roll-holds m (next_of m old.ranks) s (roll_at old.rolls k) j before (next-among m old.ranks j s next) next))))
 
@@ -239,7 +235,7 @@ module _ (m : Market) (test : ℕ → Bool) (positions : List ℕ) (at : StandAt
           | inl holds ↦
               absurd (apart.none_shared one j s passes-one fails
               (subst (Contains (choices_of m one)) same (stander-lists m old.ranks one some.there.school some.there.next))
-              (stander-lists m old.ranks j s (sym (next-stays j fails) ∙ has-true (next_of m new.ranks) s j holds)))
+              (stander-lists m old.ranks j s (sym (next-stays at [] written j fails) ∙ has-true (next_of m new.ranks) s j holds)))
           | inr fails_there ↦ fails_there
         ]
       ]
@@ -254,17 +250,10 @@ module _ (m : Market) (test : ℕ → Bool) (positions : List ℕ) (at : StandAt
 
   pub left : Leave m test old new
   left = record {
-    fits = record {
-      well_formed = fits.well_formed;
-      within_limits = fits.within_limits;
-      ranks = omega (arith, fits.ranks, long);
-      rolls = omega (arith, fits.rolls, rolls.same_length);
-      each = fits-left;
-      proposals = omega (arith, proposals, quiet);
-    };
+    fits = fits-again new (next_of m new.ranks) fits (omega (arith, fits.ranks, written.same_length)) rolls.same_length fits-left (omega (arith, proposals, quiet));
     gone = rank-gone;
-    others = rank-stays;
+    others = rank-stays at [] written;
     log = log;
     proposals = proposals;
-    same_length = long;
+    same_length = written.same_length;
   }

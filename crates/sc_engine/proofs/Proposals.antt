@@ -24,7 +24,7 @@ use Rattle.sc_seats.specs.Roll.{RollView, Refuses}
 use Rattle.sc_engine.specs.RoundView.{RoundView, next_of, roll_of, roll_at, RollFits, FitsBut, IsAway, IsPutOut, except, only, nobody, without, standing_but, CountsProposals, OffersAt}
 use Rattle.sc_engine.proofs.Tables.{length-mapped, next-among, roll-at, roll-kept}
 use Rattle.sc_engine.proofs.RollCounts.{IsCounted, counted, fits-counted, key-student}
-use Rattle.sc_engine.proofs.Rolls.{on-roll, roll-fits_still, counts-offered}
+use Rattle.sc_engine.proofs.Rolls.{on-roll, fits-again, roll-fits_still, counts-offered}
 
 -- who has a school that is not s has not s
 pub has-not : (a : Matching) (s t i : ℕ) → a i ≡ Some s → (t ≡ s → ⊥) → has a t i ≡ false
@@ -199,14 +199,9 @@ counted-ended m r away proposer gone none = ap (λ n. r.proposals + (length r.lo
 
 -- a round whose rolls alone are others
 fits-rolls : (m : Market) (r r' : RoundView) (away after : ℕ → Bool) → FitsBut m r away → r'.ranks ≡ r.ranks → length r'.rolls ≡ length r.rolls → ((t : ℕ) → RollFits m (except after (next_of m r.ranks)) t (roll_of m r'.rolls t)) → CountsProposals m r away r' after → FitsBut m r' after
-fits-rolls m r r' away after fits same same_length each counted = record {
-  well_formed = fits.well_formed;
-  within_limits = fits.within_limits;
-  ranks = omega (arith, ap (λ (l : List (Option ℕ)). length l) same, fits.ranks);
-  rolls = same_length ∙ fits.rolls;
-  each = λ t. subst (λ ranks. RollFits m (except after (next_of m ranks)) t (roll_of m r'.rolls t)) (sym same) (each t);
-  proposals = counted-within m r away r' after counted fits.proposals;
-}
+fits-rolls m r r' away after fits same same_length each counted =
+    fits-again r' (except after (next_of m r'.ranks)) fits (omega (arith, ap (λ (l : List (Option ℕ)). length l) same, fits.ranks)) same_length
+    (λ t. subst (λ ranks. RollFits m (except after (next_of m ranks)) t (roll_of m r'.rolls t)) (sym same) (each t)) (counted-within m r away r' after counted fits.proposals)
 
 -- the student in hand has no choice left
 pub fits-ended : (m : Market) (r : RoundView) (away : ℕ → Bool) (proposer : ℕ) → IsAway m r away proposer → next_of m r.ranks proposer ≡ None → FitsBut m r (without away proposer)

@@ -8,7 +8,7 @@ use Rattle.sc_papers.specs.declared.proposal.Proposal.{Proposal}
 use Rattle.sc_papers.proofs.Hands.{student-there}
 use Rattle.sc_engine.specs.RoundView.{RoundView, rank_of, next_of, Fits, FitsBut, only, roll_at, without, RollFits, StandsToo}
 use Rattle.sc_engine.proofs.Tables.{roll-at, next-by}
-use Rattle.sc_engine.proofs.Rolls.{roll-length}
+use Rattle.sc_engine.proofs.Rolls.{fits-again, roll-length}
 use Rattle.sc_engine.proofs.Proposals.{Proposed, back-only, fits-ended, fits-offered, nobody-goes}
 use Rattle.sc_engine.proofs.Beginning.{Begun, away-begun, rank-begun, next-others, entered-begun}
 
@@ -54,14 +54,7 @@ roll-open m r s at fits school room =
 -- a student who is put on the roll of their school, where nobody is put out
 pub put-on_roll : {m : Market} {r r' : RoundView} {i at rank : ℕ} → Begun m r r' i at rank → (r'' : RoundView) (choice : Option ℕ) (s school : ℕ) → slice_get (choices_of m (student_at m at)) rank ≡ choice → choice ≡ Some s → Proposed m r' (only i) i s school r''.rolls None → r''.ranks ≡ r'.ranks → r''.log ≡ r'.log → r''.proposals ≡ r'.proposals → StandsToo m r r'' i choice
 put-on_roll {m} {r} {r'} {i} begun r'' choice s school here is done same_ranks same_log same_proposals = record {
-  fits = record {
-    well_formed = counted_fits.well_formed;
-    within_limits = counted_fits.within_limits;
-    ranks = counted_fits.ranks;
-    rolls = counted_fits.rolls;
-    each = counted_fits.each;
-    proposals = omega (arith, counted_fits.proposals, same_proposals);
-  };
+  fits = fits-again r'' (next_of m r''.ranks) counted_fits counted_fits.ranks refl counted_fits.each (omega (arith, counted_fits.proposals, same_proposals));
   entered = λ j. ap (λ ranks. is_some (rank_of m ranks j)) same_ranks ∙ entered-begun begun j;
   own = ap (λ ranks. next_of m ranks i) same_ranks ∙ next-begun begun choice here;
   others = λ j apart. ap (λ ranks. next_of m ranks j) same_ranks ∙ next-others begun j apart;

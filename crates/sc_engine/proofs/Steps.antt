@@ -25,7 +25,7 @@ use Rattle.sc_seats.specs.Roll.{RollView, Refuses}
 use Rattle.sc_engine.specs.RoundView.{RoundView, rank_of, next_of, has_entered, roll_of, RollFits, FitsBut, Fits, IsAway, IsPutOut, Moves, Passes, Proposes, except, without, CountsProposals, entered_papers, Midway, Continues, choices_left, left_at}
 use Rattle.sc_engine.proofs.Offers.{others-offered}
 use Rattle.sc_engine.proofs.Tables.{rank-written, rank-kept, next-by, next-kept, next-among, next-entered}
-use Rattle.sc_engine.proofs.Rolls.{roll-fits_still, roll-holds, roll-length}
+use Rattle.sc_engine.proofs.Rolls.{fits-again, roll-fits_still, roll-holds, roll-length}
 use Rattle.sc_engine.proofs.Proposals.{Proposed, has-except, except-alike, standing-others, counted-within, counted-ended, counted-offered, fits-ended, fits-offered, nobody-goes, one-goes, put-out}
 
 -- the same students have entered, in the same papers
@@ -133,17 +133,11 @@ module _ {m : Market} {r r' : RoundView} {i s at rank : ℕ} (refused : Refused 
   fits-refused =
       let next : Matching = next_of m r.ranks in
       let next' : Matching = next_of m r'.ranks in
-      record {
-        well_formed = hand.fits.well_formed;
-        within_limits = hand.fits.within_limits;
-        ranks = omega (arith, ap (λ (l : List (Option ℕ)). length l) refused.moved.ranks, length-set r.ranks at (Some (rank + 1)), hand.fits.ranks);
-        rolls = ap length refused.rolls ∙ hand.fits.rolls;
-        each = λ t. subst (λ rolls. RollFits m (except away next') t (roll_of m rolls t)) (sym refused.rolls)
-            (roll-fits_still m (except away next) (except away next') t (roll_of m r.rolls t)
-            (λ j. sym (has-agree (except away next') (except away next) t j (except-alike away next' next i hand.gone (next-stays refused.moved) j)))
-            (hand.fits.each t));
-        proposals = counted-within m r away r' away counted-refused hand.fits.proposals;
-      }
+      fits-again r' (except away next') hand.fits (omega (arith, ap (λ (l : List (Option ℕ)). length l) refused.moved.ranks, length-set r.ranks at (Some (rank + 1)), hand.fits.ranks)) (ap length refused.rolls)
+      (λ t. subst (λ rolls. RollFits m (except away next') t (roll_of m rolls t)) (sym refused.rolls)
+      (roll-fits_still m (except away next) (except away next') t (roll_of m r.rolls t)
+      (λ j. sym (has-agree (except away next') (except away next) t j (except-alike away next' next i hand.gone (next-stays refused.moved) j))) (hand.fits.each t)))
+      (counted-within m r away r' away counted-refused hand.fits.proposals)
 
   midway-refused : (earlier : List Rejection) → Midway m earlier r → Midway m earlier r'
   midway-refused earlier midway =

@@ -15,12 +15,13 @@ use Rattle.sc_papers.proofs.Positions.{position-one, position-there}
 use Rattle.sc_papers.proofs.Rejections.{has-agree, has-true}
 use Rattle.sc_seats.specs.Roll.{RollView}
 use Rattle.sc_engine.specs.Leaving.{AreTaken, HasRolls, SomeStands, StandAt, StandsThere, TakesOver}
+use Rattle.sc_engine.specs.Noted.{AreWritten}
 use Rattle.sc_engine.specs.RoundView.{Fits, RollFits, RoundView, next_of, no_roll, rank_of, roll_at, roll_of}
-use Rattle.sc_engine.proofs.Leaving.{Tells, earlier, earlier-or_latest, empty-roll, latest, only-one, stander-lists, told-only, told-there}
+use Rattle.sc_engine.proofs.Leaving.{Tells, earlier, earlier-or_latest, empty-roll, latest, next-stays, only-one, rank-stays, rank-taken, some-stands, stander-lists, told-only, told-there}
 use Rattle.sc_engine.proofs.Offers.{roll_at-mapped}
 use Rattle.sc_engine.proofs.Proposals.{has-none}
 use Rattle.sc_engine.proofs.Renewing.{roll_set_other, roll_set_same}
-use Rattle.sc_engine.proofs.Rolls.{on-roll, roll-fits_still, roll-holds}
+use Rattle.sc_engine.proofs.Rolls.{fits-again, on-roll, roll-fits_where, roll-holds}
 use Rattle.sc_engine.proofs.Tables.{length-mapped, next-among, next-kept, next-none, position-of, rank-alike, roll-at, stands-at}
 
 -- one more position
@@ -98,13 +99,9 @@ none-contained (key ∷ keys) none = absurd (none key (0, omega arith, refl))
 module _ (m : Market) (test : ℕ → Bool) (positions : List ℕ) (at : StandAt m test positions) (apart : AreApart m test) (old other new : RoundView) (left : List RollView)
     (fits : Fits m old) (other_rolls : HasRolls m other) (absent : (i : ℕ) → test i ≡ true → rank_of m old.ranks i ≡ None) (alone : (i : ℕ) → test i ≡ false → rank_of m other.ranks i ≡ None)
     (quiet : old.proposals ≡ 0) (rolls : AreTaken m other.ranks positions old.rolls other.rolls new.rolls left)
-    (taken : (p : ℕ) → Contains positions p → get_or new.ranks p None ≡ get_or other.ranks p None) (stay : (p : ℕ) → (Contains positions p → ⊥) → get_or new.ranks p None ≡ get_or old.ranks p None)
-    (long : length new.ranks ≡ length old.ranks) (log : new.log ≡ old.log) (proposals : new.proposals ≡ old.proposals) where
-  rank-taken : (i : ℕ) → test i ≡ true → rank_of m new.ranks i ≡ rank_of m other.ranks i
-  rank-taken i passes = rank-alike m new.ranks other.ranks i (λ p is. taken p ((at.exact p i (position-there (students_of m) i p is)).1 passes))
-
-  rank-stays : (i : ℕ) → test i ≡ false → rank_of m new.ranks i ≡ rank_of m old.ranks i
-  rank-stays i fails = rank-alike m new.ranks old.ranks i (λ p is. stay p (λ among. false≢true (sym fails ∙ (at.exact p i (position-there (students_of m) i p is)).0 among)))
+    (written : AreWritten positions (λ p. get_or other.ranks p None) old.ranks new.ranks) (log : new.log ≡ old.log) (proposals : new.proposals ≡ old.proposals) where
+  next-taken : (i : ℕ) → test i ≡ true → next_of m new.ranks i ≡ next_of m other.ranks i
+  next-taken i passes = next-kept m other.ranks new.ranks i (rank-taken at other.ranks written i passes)
 
   next-old : (i : ℕ) → test i ≡ true → next_of m old.ranks i ≡ None
   next-old i passes = next-none m old.ranks i (absent i passes)
@@ -112,44 +109,22 @@ module _ (m : Market) (test : ℕ → Bool) (positions : List ℕ) (at : StandAt
   next-other : (i : ℕ) → test i ≡ false → next_of m other.ranks i ≡ None
   next-other i fails = next-none m other.ranks i (alone i fails)
 
-  -- who stands in the other round stands at one of the positions, and passes
-  there : (i s k : ℕ) → next_of m other.ranks i ≡ Some s → position (nat_eq s) (schools_of m) ≡ Some k → test i ≡ true → SomeStands m other.ranks positions k
-  there i s k next school passes =
-      let stood = stands-at m other.ranks i s next in
-      let where_is = position-of m other.ranks i stood.rank stood.entered in
-      record {
-        p = where_is.at;
-        among = (at.exact where_is.at i (position-there (students_of m) i where_is.at where_is.found)).1 passes;
-        there = record { student = i; school = s; found = where_is.found; next = next; at = school };
-      }
-
   -- a roll that stays fits, where nobody stands at the school in the other round
   fits-same : (s : ℕ) (roll : RollView) → RollFits m (next_of m old.ranks) s roll → ((j : ℕ) → next_of m other.ranks j ≡ Some s → ⊥) → RollFits m (next_of m new.ranks) s roll
-  fits-same s roll before nobody_stands = roll-fits_still m (next_of m old.ranks) (next_of m new.ranks) s roll alike before
-    where
-      alike : (j : ℕ) → has (next_of m old.ranks) s j ≡ has (next_of m new.ranks) s j
-      alike j = elim (cases_Bool (test j)) [
-        | inl passes ↦ elim (cases_Bool (has (next_of m new.ranks) s j)) [
-          | inl holds ↦ absurd (nobody_stands j (sym (next-kept m other.ranks new.ranks j (rank-taken j passes)) ∙ has-true (next_of m new.ranks) s j holds))
-          | inr fails_there ↦ has-none (next_of m old.ranks) s j (next-old j passes) ∙ sym fails_there
-        ]
-        | inr fails ↦ has-agree (next_of m old.ranks) (next_of m new.ranks) s j (sym (next-kept m old.ranks new.ranks j (rank-stays j fails)))
-      ]
+  fits-same s roll before nobody_stands = roll-fits_where m (next_of m old.ranks) (next_of m new.ranks) s roll (λ j stands. elim (cases_Bool (test j)) [
+    | inl passes ↦ absurd (elim stands [ inl stood ↦ none-some s (sym (next-old j passes) ∙ stood) | inr now ↦ nobody_stands j (sym (next-taken j passes) ∙ now) ])
+    | inr fails ↦ sym (next-stays at other.ranks written j fails)
+  ]) before
 
   -- and one that is taken fits, where somebody who passes stands there
   fits-taken : (s : ℕ) (roll : RollView) (one : ℕ) → RollFits m (next_of m other.ranks) s roll → test one ≡ true → Contains (choices_of m one) s → RollFits m (next_of m new.ranks) s roll
-  fits-taken s roll one before passes_one listed = roll-fits_still m (next_of m other.ranks) (next_of m new.ranks) s roll alike before
-    where
-      alike : (j : ℕ) → has (next_of m other.ranks) s j ≡ has (next_of m new.ranks) s j
-      alike j = elim (cases_Bool (test j)) [
-        | inl passes ↦ has-agree (next_of m other.ranks) (next_of m new.ranks) s j (sym (next-kept m other.ranks new.ranks j (rank-taken j passes)))
-        | inr fails ↦ elim (cases_Bool (has (next_of m new.ranks) s j)) [
-          | inl holds ↦
-              absurd (apart.none_shared one j s passes_one fails listed
-              (stander-lists m old.ranks j s (sym (next-kept m old.ranks new.ranks j (rank-stays j fails)) ∙ has-true (next_of m new.ranks) s j holds)))
-          | inr fails_there ↦ has-none (next_of m other.ranks) s j (next-other j fails) ∙ sym fails_there
-        ]
-      ]
+  fits-taken s roll one before passes_one listed = roll-fits_where m (next_of m other.ranks) (next_of m new.ranks) s roll (λ j stands. elim (cases_Bool (test j)) [
+    | inl passes ↦ sym (next-taken j passes)
+    | inr fails ↦ absurd (elim stands [
+      | inl there ↦ none-some s (sym (next-other j fails) ∙ there)
+      | inr now ↦ apart.none_shared one j s passes_one fails listed (stander-lists m old.ranks j s (sym (next-stays at other.ranks written j fails) ∙ now))
+    ])
+  ]) before
 
   at-school : (next : RoundView) → HasRolls m next → (s k : ℕ) → position (nat_eq s) (schools_of m) ≡ Some k → RollFits m (next_of m next.ranks) s (roll_at next.rolls k)
   at-school next they_fit s k school = subst (RollFits m (next_of m next.ranks) s) (roll-at m next.rolls s k school) (they_fit.each s)
@@ -172,7 +147,7 @@ module _ (m : Market) (test : ℕ → Bool) (positions : List ℕ) (at : StandAt
         subst (RollFits m (next_of m new.ranks) s) (sym same)
         (fits-same s (roll_at old.rolls k) (at-school old (record { rolls = fits.rolls; each = fits.each }) s k school) (λ j next.
         let passes = passes-there j s next in
-        let some = there j s k next school passes in
+        let some = some-stands at other.ranks j s k passes next school in
         let none = old-empty s k j school passes (stander-lists m other.ranks j s next) in
         let held : Contains (roll_at other.rolls k).keys (key_of m j s) = roll-holds m (next_of m other.ranks) s (roll_at other.rolls k) j (at-school other other_rolls s k school) (next-among m other.ranks j s next) next in
         let theirs = rolls.done some.p k some.among some.there none (omega (arith, held.1)) in
@@ -197,16 +172,9 @@ module _ (m : Market) (test : ℕ → Bool) (positions : List ℕ) (at : StandAt
 
   pub takes_over : TakesOver m test old other new
   takes_over = record {
-    fits = record {
-      well_formed = fits.well_formed;
-      within_limits = fits.within_limits;
-      ranks = omega (arith, fits.ranks, long);
-      rolls = omega (arith, fits.rolls, rolls.same_length);
-      each = fits-new;
-      proposals = omega (arith, proposals, quiet);
-    };
-    taken = rank-taken;
-    others = rank-stays;
+    fits = fits-again new (next_of m new.ranks) fits (omega (arith, fits.ranks, written.same_length)) rolls.same_length fits-new (omega (arith, proposals, quiet));
+    taken = rank-taken at other.ranks written;
+    others = rank-stays at other.ranks written;
     log = log;
     proposals = proposals;
   }

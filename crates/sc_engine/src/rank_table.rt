@@ -1,7 +1,7 @@
 //! Where students stand, by their positions.
 
 ghost use Rattle.std.specs.Prelude.{◌≡◌, ℕ, ◌+◌, ◌<◌, ◌≤◌, Contains, None, Some, length, slice_index_or, slice_set, IfOk, OnOk};
-ghost use Rattle.sc_engine.specs.Noted.{AreNoted};
+ghost use Rattle.sc_engine.specs.Noted.{AreNoted, AreWritten};
 ghost use Rattle.sc_engine.specs.RoundView.{StandNowhere};
 
 use sc_papers::LONGEST_LIST;
@@ -62,10 +62,7 @@ fn clear_one(ranks: &mut Vec<Option<u8>>, at: usize)
 
 /// Makes nobody stand at these positions.
 fn clear_at(ranks: &mut Vec<Option<u8>>, positions: &[usize])
-    ensures gone { (at : ℕ) → Contains positions.now at → slice_index_or ranks.new.items at None ≡ None }
-    ensures stay { (at : ℕ) → ¬ Contains positions.now at
-        → slice_index_or ranks.new.items at None ≡ slice_index_or ranks.old.items at None }
-    ensures same_length { length ranks.new.items ≡ length ranks.old.items }
+    ensures { AreWritten positions.now (λ at. None) ranks.old.items ranks.new.items }
 {
     for at in positions {
         clear_one(ranks, *at);
@@ -85,11 +82,7 @@ fn rank_or_none(ranks: &[Option<u8>], at: usize) -> Option<u8>
 /// Makes whoever stands at these positions stand where they stand in another table.
 fn take_at(ranks: &mut Vec<Option<u8>>, other: &[Option<u8>], positions: &[usize])
     requires { (at : ℕ) → Contains positions.now at → at < length ranks.old.items }
-    ensures taken { (at : ℕ) → Contains positions.now at
-        → slice_index_or ranks.new.items at None ≡ slice_index_or other.now at None }
-    ensures stay { (at : ℕ) → ¬ Contains positions.now at
-        → slice_index_or ranks.new.items at None ≡ slice_index_or ranks.old.items at None }
-    ensures same_length { length ranks.new.items ≡ length ranks.old.items }
+    ensures { AreWritten positions.now (λ at. slice_index_or other.now at None) ranks.old.items ranks.new.items }
 {
     for at in positions {
         ranks[*at] = rank_or_none(other, *at);
@@ -177,10 +170,7 @@ impl RankTable {
 
     /// Makes nobody stand at these positions any more. It takes no memory.
     pub(crate) fn clear_at(&mut self, positions: &[usize])
-        ensures gone { (at : ℕ) → Contains positions.now at → slice_index_or self.new at None ≡ None }
-        ensures stay { (at : ℕ) → ¬ Contains positions.now at
-            → slice_index_or self.new at None ≡ slice_index_or self.old at None }
-        ensures same_length { length self.new ≡ length self.old }
+        ensures { AreWritten positions.now (λ at. None) self.old self.new }
     {
         clear_at(&mut self.ranks, positions);
     }
@@ -189,11 +179,7 @@ impl RankTable {
     /// stands is no longer noted.
     pub(crate) fn take_at(&mut self, other: &[Option<u8>], positions: &[usize])
         requires { (at : ℕ) → Contains positions.now at → at < length self.old }
-        ensures taken { (at : ℕ) → Contains positions.now at
-            → slice_index_or self.new at None ≡ slice_index_or other.now at None }
-        ensures stay { (at : ℕ) → ¬ Contains positions.now at
-            → slice_index_or self.new at None ≡ slice_index_or self.old at None }
-        ensures same_length { length self.new ≡ length self.old }
+        ensures { AreWritten positions.now (λ at. slice_index_or other.now at None) self.old self.new }
     {
         self.is_noting = false;
         take_at(&mut self.ranks, other, positions);

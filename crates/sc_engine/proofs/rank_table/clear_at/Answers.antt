@@ -1,5 +1,6 @@
-use Rattle.std.proofs.Common.{Contains, subst, sym}
+use Rattle.std.proofs.Common.{None, subst}
 use Rattle.std.proofs.lemmas.List.{take_all}
+use Rattle.sc_engine.specs.Noted.{AreWritten}
 use Rattle.sc_engine.proofs.Clearing.{taken_more}
 use Rattle.sc_engine.proofs.rank_table.clear_at.Goals as goal
 
@@ -8,5 +9,5 @@ loop-at-preserved c =
     taken_more c.args.positions.now c.loop-at.at-index c.loop-at-test.true _ c.args.ranks.now.items c.loop-at.ranks.items c.clear_one.new.ranks.items
     c.clear_one.ensures.gone c.clear_one.ensures.others c.clear_one.ensures.same_length c.loop-at.invariant
 
-pub returns-clause-gone : goal.returns-clause-gone
-returns-clause-gone c at among = c.loop-at.invariant.taken at (subst (λ ps. Contains ps at) (sym (take_all c.loop-at.at-index c.args.positions.now c.loop-at-test.false)) among)
+pub returns : goal.returns
+returns c = subst (λ ps. AreWritten ps (λ at. None) c.args.ranks.now.items c.loop-at.ranks.items) (take_all c.loop-at.at-index c.args.positions.now c.loop-at-test.false) c.loop-at.invariant
