@@ -18,7 +18,7 @@ use Rattle.sc_engine.specs.RoundView.{RoundView, rank_of, next_of, has_entered, 
 use Rattle.sc_engine.proofs.Tables.{rank-apart, rank-at, next-by, next-none}
 use Rattle.sc_engine.proofs.Tables as tables
 use Rattle.sc_engine.proofs.Rolls.{fits-again, roll-fits_still}
-use Rattle.sc_engine.proofs.Proposals.{differ-only, except-alike, has-alike, has-none, only-away, or-same, standing-alike, standing-others, counted-within}
+use Rattle.sc_engine.proofs.Proposals.{differ-only, except-alike, has-alike, has-none, only-away, or-same, standing-alike, standing-others}
 use Rattle.sc_engine.proofs.Steps.{continues-midway}
 
 -- the student goes to a rank of their choices, with nothing else changed
@@ -75,7 +75,7 @@ fits-begun {m} {r} {r'} {i} {at} {rank} begun =
     fits-again r' (except (only i) (next_of m r'.ranks)) begun.fits begun.within (ap length begun.rolls)
     (λ t. subst (λ rolls. RollFits m (except (only i) (next_of m r'.ranks)) t (roll_of m rolls t)) (sym begun.rolls)
     (roll-fits_still m (next_of m r.ranks) (except (only i) (next_of m r'.ranks)) t (roll_of m r.rolls t) (stand-alike begun t) (begun.fits.each t)))
-    (counted-within m r nobody r' (only i) (counted-begun begun) begun.fits.proposals)
+    (omega (arith, counted-begun begun, begun.fits.proposals))
 
 pub away-begun : {m : Market} {r r' : RoundView} {i at rank : ℕ} → Begun m r r' i at rank → IsAway m r' (only i) i
 away-begun begun = only-away (fits-begun begun)

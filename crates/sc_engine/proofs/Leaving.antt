@@ -80,13 +80,6 @@ emptied_more m ranks positions n old now new low before one = record {
     still : (k : ℕ) → (roll_at now k).keys ≡ [] → (roll_at new k).keys ≡ []
     still k none = elim (one.each k) [ inl same ↦ ap (λ (roll : RollView). roll.keys) same ∙ none | inr (empty, some) ↦ ap (λ (roll : RollView). roll.keys) empty ]
 
--- the school that a student is to propose to stands at this position, and they stand at it
-pub proposal-school : (m : Market) (i : ℕ) (choice : Option ℕ) (told : Option Proposal) (proposal : Proposal) → IsProposal m i choice told → told ≡ Some proposal → position (nat_eq proposal.school) (schools_of m) ≡ Some proposal.position
-proposal-school m i choice told proposal so is = subst (λ o. IfSome o (λ (p : Proposal). position (nat_eq p.school) (schools_of m) ≡ Some p.position)) is so.position
-
-pub proposal-next : (m : Market) (i : ℕ) (choice : Option ℕ) (told : Option Proposal) (proposal : Proposal) → IsProposal m i choice told → told ≡ Some proposal → choice ≡ Some proposal.school
-proposal-next m i choice told proposal so is = sym so.school ∙ ap (option_map (λ (p : Proposal). p.school)) is
-
 -- what is told of the student at a position
 abbrev pub Tells : Market → List (Option ℕ) → ℕ → Option Proposal → Type 0
 Tells m ranks at told = (i : ℕ) → position (nat_eq i) (students_of m) ≡ Some at → IsProposal m i (next_of m ranks i) told
@@ -96,20 +89,14 @@ pub told-there : (m : Market) (ranks : List (Option ℕ)) (at : ℕ) (told : Opt
 told-there m ranks at told proposal well low tells is =
     let i : ℕ = student_at m at in
     let found = hand-position m well at low in
-    record {
-      student = i;
-      school = proposal.school;
-      found = found;
-      next = proposal-next m i (next_of m ranks i) told proposal (tells i found) is;
-      at = proposal-school m i (next_of m ranks i) told proposal (tells i found) is;
-    }
+    let so = subst (IsProposal m i (next_of m ranks i)) is (tells i found) in
+    record { student = i; school = proposal.school; found = found; next = sym so.school; at = so.position }
 
 pub told-only : (m : Market) (ranks : List (Option ℕ)) (at k : ℕ) (told : Option Proposal) (proposal : Proposal) → Tells m ranks at told → told ≡ Some proposal → StandsThere m ranks at k → k ≡ proposal.position
 told-only m ranks at k told proposal tells is there =
-    let so = tells there.student there.found in
-    let school : Some there.school ≡ Some proposal.school = sym there.next ∙ proposal-next m there.student (next_of m ranks there.student) told proposal so is in
-    let place : Some k ≡ Some proposal.position =
-    sym there.at ∙ ap (λ o. position (nat_eq (unwrap_or o 0)) (schools_of m)) school ∙ proposal-school m there.student (next_of m ranks there.student) told proposal so is in
+    let so = subst (IsProposal m there.student (next_of m ranks there.student)) is (tells there.student there.found) in
+    let school : Some there.school ≡ Some proposal.school = sym there.next ∙ sym so.school in
+    let place : Some k ≡ Some proposal.position = sym there.at ∙ ap (λ o. position (nat_eq (unwrap_or o 0)) (schools_of m)) school ∙ so.position in
     cc
 
 pub told-within : (m : Market) (ranks : List (Option ℕ)) (at : ℕ) (told : Option Proposal) (proposal : Proposal) → WellFormed m → at < length m.students → Tells m ranks at told → told ≡ Some proposal → proposal.position < length m.schools

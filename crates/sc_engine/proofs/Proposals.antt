@@ -149,10 +149,6 @@ unfolding how_many
 standing-most m ranks away within =
     omega (arith, within.students, length-mapped (λ (e : ℕ × Student). e.0) m.students, count_by-le-length (λ i. is_some (except away (next_of m ranks) i)) (students_of m))
 
--- the proposals stay within what the log and the ranks account for
-pub counted-within : (m : Market) (r : RoundView) (away : ℕ → Bool) (r' : RoundView) (away' : ℕ → Bool) → CountsProposals m r away r' away' → r.proposals ≤ length r.log + standing_but m r.ranks away → r'.proposals ≤ length r'.log + standing_but m r'.ranks away'
-counted-within m r away r' away' counted within = omega (arith, counted, within)
-
 -- a proposal as the code makes it: a student who is away stands at s, and their key is offered to the roll
 pub record Proposed (m : Market) (r : RoundView) (away : ℕ → Bool) (proposer s at : ℕ) (rolls : List RollView) (out : Option Key) : Type 0 where
   pub hand : IsAway m r away proposer
@@ -201,7 +197,7 @@ counted-ended m r away proposer gone none = ap (λ n. r.proposals + (length r.lo
 fits-rolls : (m : Market) (r r' : RoundView) (away after : ℕ → Bool) → FitsBut m r away → r'.ranks ≡ r.ranks → length r'.rolls ≡ length r.rolls → ((t : ℕ) → RollFits m (except after (next_of m r.ranks)) t (roll_of m r'.rolls t)) → CountsProposals m r away r' after → FitsBut m r' after
 fits-rolls m r r' away after fits same same_length each counted =
     fits-again r' (except after (next_of m r'.ranks)) fits (omega (arith, ap (λ (l : List (Option ℕ)). length l) same, fits.ranks)) same_length
-    (λ t. subst (λ ranks. RollFits m (except after (next_of m ranks)) t (roll_of m r'.rolls t)) (sym same) (each t)) (counted-within m r away r' after counted fits.proposals)
+    (λ t. subst (λ ranks. RollFits m (except after (next_of m ranks)) t (roll_of m r'.rolls t)) (sym same) (each t)) (omega (arith, counted, fits.proposals))
 
 -- the student in hand has no choice left
 pub fits-ended : (m : Market) (r : RoundView) (away : ℕ → Bool) (proposer : ℕ) → IsAway m r away proposer → next_of m r.ranks proposer ≡ None → FitsBut m r (without away proposer)

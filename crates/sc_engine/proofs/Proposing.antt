@@ -1,5 +1,5 @@
 -- What the papers propose at a rank.
-use Rattle.std.proofs.Common.{◌≡◌, ◌∙◌, sym, ap, subst, ℕ, nat_eq, Option, Some, None, IfSome, position, slice_get}
+use Rattle.std.proofs.Common.{◌≡◌, refl, sym, subst, ℕ, nat_eq, Option, Some, None, IfSome, position, slice_get}
 use Rattle.std.specs.Option.{option_map}
 use Rattle.sc_papers.specs.Key.{key_of}
 use Rattle.sc_papers.specs.Market.{Market, choices_of, schools_of, student_at}
@@ -8,11 +8,8 @@ use Rattle.sc_engine.specs.Proposals.{IsProposal}
 
 -- no proposal to no choice
 pub proposes_nothing : (m : Market) (i : ℕ) (choice : Option ℕ) (proposal : Option Proposal) → proposal ≡ None → choice ≡ None → IsProposal m i choice proposal
-proposes_nothing m i choice proposal none nowhere = record {
-  school = ap (option_map (λ (p : Proposal). p.school)) none ∙ sym nowhere;
-  position = subst (λ (o : Option Proposal). IfSome o (λ p. position (nat_eq p.school) (schools_of m) ≡ Some p.position)) (sym none) tt;
-  key = subst (λ (o : Option Proposal). IfSome o (λ p. p.key ≡ key_of m i p.school)) (sym none) tt;
-}
+proposes_nothing m i choice proposal none nowhere =
+    subst (λ (c : Option ℕ). IsProposal m i c proposal) (sym nowhere) (subst (IsProposal m i None) (sym none) (record { school = refl; position = tt; key = tt }))
 
 -- what is said of the student at a position, said of the student who stands there
 pub proposes_there : (m : Market) (i at rank : ℕ) (proposal : Option Proposal) → student_at m at ≡ i

@@ -28,17 +28,6 @@ put-nowhere {m} {r} {r'} {i} begun choice here none = record {
   proposals = begun.proposals;
 }
 
--- what the papers tell at the rank of a choice is a proposal to it
-pub proposal-told : (m : Market) (at rank : ℕ) (choice : Option ℕ) (told : Option Proposal) (proposal : Proposal)
-    → slice_get (choices_of m (student_at m at)) rank ≡ choice → option_map (λ p. p.school) told ≡ slice_get (choices_of m (student_at m at)) rank
-    → IfSome told (λ p. position (nat_eq p.school) (schools_of m) ≡ Some p.position) → IfSome told (λ p. p.key ≡ key_of m (student_at m at) p.school) → told ≡ Some proposal
-    → (choice ≡ Some proposal.school) × (position (nat_eq proposal.school) (schools_of m) ≡ Some proposal.position) × (proposal.key ≡ key_of m (student_at m at) proposal.school)
-proposal-told m at rank choice told proposal here school place key is = (
-  sym here ∙ sym school ∙ ap (option_map (λ (p : Proposal). p.school)) is,
-  subst (λ (o : Option Proposal). IfSome o (λ p. position (nat_eq p.school) (schools_of m) ≡ Some p.position)) is place,
-  subst (λ (o : Option Proposal). IfSome o (λ p. p.key ≡ key_of m (student_at m at) p.school)) is key,
-)
-
 -- a school at which fewer stand than it has seats has room on its roll
 pub roll-open : (m : Market) (r : RoundView) (s at : ℕ) → Fits m r → position (nat_eq s) (schools_of m) ≡ Some at → held m (next_of m r.ranks) s < seats_of m s → length (roll_at r.rolls at).keys < (roll_at r.rolls at).seats
 roll-open m r s at fits school room =

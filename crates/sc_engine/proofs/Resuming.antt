@@ -1,10 +1,12 @@
 -- Students who come back to where they stood after an earlier log.
 use Rattle.std.proofs.Common.{◌≡◌, inl, inr, refl, ap, sym, subst, ◌∙◌, ℕ, zero, suc, ◌+◌, ◌<◌, ◌==◌, nat_eq, Bool, true, false, ◌&&◌, ◌||◌, List, [], ◌∷◌, ◌++◌, length, map, take, slice_get, Option, Some, None, Contains, IfSome, append-nil, arith}
 use Rattle.std.specs.List.{IsDistinct}
+use Rattle.std.specs.Option.{option_map}
 use Rattle.std.proofs.lemmas.Bool.{cases_Bool, cases_lt, or_left, or_right, or_cases, eqb-true, eq-eqb, and_from, false≢true}
 use Rattle.std.proofs.lemmas.Cmp.{nat_eq_equiv}
-use Rattle.std.proofs.lemmas.Option.{none-some, same_Some, slice_get_within, get_or_from_slice_get}
-use Rattle.std.proofs.lemmas.List.{take_all}
+use Rattle.std.proofs.lemmas.Option.{same_Some, slice_get-get_or, slice_get-map, slice_get_within, get_or_from_slice_get}
+use Rattle.std.proofs.lemmas.List.{get_or-take, length-take, take_all}
+use Rattle.std.proofs.lemmas.List.Folds.{Any-from_list_any, list_any_at}
 use Rattle.std.proofs.lemmas.List.Elements.{All-contains}
 use Rattle.sc_papers.specs.Chain.{and_one}
 use Rattle.sc_papers.specs.Log.{next_choice, matching_of, IsSettled}
@@ -37,14 +39,6 @@ pub record PutFirst (m : Market) (next_choices : List Standing) (r : RoundView) 
 abbrev numbers : List Standing → List ℕ
 numbers next_choices = map (λ (choice : Standing). choice.student) next_choices
 
-get-mapped : {X Y : Type 0} (f : X → Y) (xs : List X) (k : ℕ) (x : X) → slice_get xs k ≡ Some x → slice_get (map f xs) k ≡ Some (f x)
-get-mapped f [] k x here = absurd (none-some x here)
-get-mapped f (y ∷ ys) zero x here = ap (λ z. Some (f z)) (same_Some y x here)
-get-mapped f (y ∷ ys) (suc k) x here = get-mapped f ys k x here
-
-contains-read : {X : Type 0} (xs : List X) (k : ℕ) (x : X) → slice_get xs k ≡ Some x → Contains xs x
-contains-read xs k x here = (k, slice_get_within xs k x here, get_or_from_slice_get xs k x x here)
-
 -- who is among the first next choices is among the first of their students
 stands-first : (next_choices : List Standing) (k i : ℕ) → stands (take k next_choices) i ≡ among_first (numbers next_choices) k i
 stands-first next_choices zero i = refl
@@ -55,39 +49,32 @@ stands-first (choice ∷ rest) (suc k) i = λ t. nat_eq_equiv.symm choice.studen
 stands-more : (next_choices : List Standing) (k : ℕ) (choice : Standing) → slice_get next_choices k ≡ Some choice → (i : ℕ) → stands (take (k + 1) next_choices) i ≡ and_one (stands (take k next_choices)) choice.student i
 stands-more next_choices k choice here i =
     stands-first next_choices (k + 1) i
-    ∙ first-more (numbers next_choices) k choice.student (get-mapped (λ (s : Standing). s.student) next_choices k choice here) i
+    ∙ first-more (numbers next_choices) k choice.student (slice_get-map (λ (s : Standing). s.student) next_choices k ∙ ap (option_map (λ (s : Standing). s.student)) here) i
     ∙ ap (λ b. b || i == choice.student) (sym (stands-first next_choices k i))
 
 -- the next one is not among them
 stands-apart : (next_choices : List Standing) (k : ℕ) (choice : Standing) → IsDistinct nat_eq (numbers next_choices) → slice_get next_choices k ≡ Some choice → stands (take k next_choices) choice.student ≡ false
 stands-apart next_choices k choice different here =
     stands-first next_choices k choice.student
-    ∙ first-apart (numbers next_choices) k choice.student different (get-mapped (λ (s : Standing). s.student) next_choices k choice here)
+    ∙ first-apart (numbers next_choices) k choice.student different (slice_get-map (λ (s : Standing). s.student) next_choices k ∙ ap (option_map (λ (s : Standing). s.student)) here)
 
 -- who stands has a choice
 stands-rank : (next_choices : List Standing) (k i : ℕ) → stands (take k next_choices) i ≡ true → (at : ℕ) × (choice : Standing) × (at < k) × (slice_get next_choices at ≡ Some choice) × (choice.student ≡ i)
-stands-rank next_choices zero i there = absurd (false≢true there)
-stands-rank [] (suc k) i there = absurd (false≢true there)
-stands-rank (choice ∷ rest) (suc k) i there = elim (or_cases (choice.student == i) (stands (take k rest) i) there) [
-  | inl same ↦ (0, choice, omega arith, refl, eqb-true choice.student i same)
-  | inr later ↦
-      let (at, found, low, here, is) = stands-rank rest k i later in
-      (suc at, found, omega (arith, low), here, is)
-]
+stands-rank next_choices k i there =
+    let (at, choice, low, is, passes) = Any-from_list_any (λ (choice : Standing). choice.student == i) (take k next_choices) there in
+    let here = slice_get-get_or next_choices at choice (omega (arith, low, length-take k next_choices)) ∙ ap Some (sym (get_or-take k next_choices at choice (omega (arith, low, length-take k next_choices))) ∙ is) in
+    (at, choice, omega (arith, low, length-take k next_choices), here, eqb-true choice.student i passes)
 
 -- and who has one stands
 rank-stands : (next_choices : List Standing) (k at : ℕ) (choice : Standing) → at < k → slice_get next_choices at ≡ Some choice → stands (take k next_choices) choice.student ≡ true
-rank-stands next_choices zero at choice low here = absurd (omega (arith, low))
-rank-stands [] (suc k) at choice low here = absurd (none-some choice here)
-rank-stands (first ∷ rest) (suc k) zero choice low here =
-    or_left (first.student == choice.student) (stands (take k rest) choice.student) (eq-eqb first.student choice.student (ap (λ (s : Standing). s.student) (same_Some first choice here)))
-rank-stands (first ∷ rest) (suc k) (suc at) choice low here =
-    or_right (first.student == choice.student) (stands (take k rest) choice.student) (rank-stands rest k at choice (omega (arith, low)) here)
+rank-stands next_choices k at choice low here =
+    list_any_at (λ (one : Standing). one.student == choice.student) (take k next_choices) at choice (omega (arith, low, slice_get_within next_choices at choice here, length-take k next_choices))
+    (eq-eqb _ _ (ap (λ (one : Standing). one.student) (get_or-take k next_choices at choice low ∙ get_or_from_slice_get next_choices at choice choice here)))
 
 module _ {m : Market} {earlier : List Rejection} {next_choices : List Standing} (after : AreNextChoices m earlier next_choices) where
   -- where a choice says that its student stands
   pub next-after : (at : ℕ) (choice : Standing) → slice_get next_choices at ≡ Some choice → choice.next ≡ next_choice m earlier choice.student
-  next-after at choice here = All-contains (λ (s : Standing). s.next ≡ next_choice m earlier s.student) next_choices choice after.next (contains-read next_choices at choice here)
+  next-after at choice here = All-contains (λ (s : Standing). s.next ≡ next_choice m earlier s.student) next_choices choice after.next (at, slice_get_within next_choices at choice here, get_or_from_slice_get next_choices at choice choice here)
 
   -- the student lists the school
   pub listed-after : (at : ℕ) (choice : Standing) → slice_get next_choices at ≡ Some choice → IfSome choice.next (λ s. Contains (choices_of m choice.student) s)

@@ -10,6 +10,7 @@ use Rattle.sc_papers.specs.Key.{key_of}
 use Rattle.sc_papers.specs.Matching.{Matching, has, how_many}
 use Rattle.sc_papers.specs.declared.key.Key.{Key}
 use Rattle.sc_papers.proofs.Counting.{contains-head, count-cons_fails, count-some, some-counted}
+use Rattle.sc_papers.proofs.Restriction.{count-filter}
 use Rattle.sc_papers.proofs.Sums.{count-all}
 use Rattle.sc_seats.specs.Roll.{RollView}
 use Rattle.sc_engine.specs.RoundView.{RollFits}
@@ -25,35 +26,21 @@ pub key-student : (m : Market) (i s : ℕ) → (key_of m i s).student ≡ i
 unfolding key_of
 key-student m i s = refl
 
--- a test counts the same among students as among their keys
-counts-of_keys : (m : Market) (s : ℕ) (p : ℕ → Bool) (xs : List ℕ) → count_by (λ (key : Key). p key.student) (map (λ j. key_of m j s) xs) ≡ count_by p xs
-counts-of_keys m s p [] = refl
-counts-of_keys m s p (x ∷ xs) =
-    sum_by-cons (λ (key : Key). cond (p key.student) 1 0) (key_of m x s) (map (λ j. key_of m j s) xs)
-    ∙ ap (λ n. cond (p (key_of m x s).student) 1 0 + n) (counts-of_keys m s p xs)
-    ∙ ap (λ i. cond (p i) 1 0 + count_by p xs) (key-student m x s)
-    ∙ sym (sum_by-cons (λ j. cond (p j) 1 0) x xs)
+-- a test of what is made of each counts the same before
+counts-mapped : {X Y : Type 0} (p : Y → Bool) (f : X → Y) (xs : List X) → count_by p (map f xs) ≡ count_by (λ x. p (f x)) xs
+counts-mapped p f [] = refl
+counts-mapped p f (x ∷ xs) =
+    sum_by-cons (λ y. cond (p y) 1 0) (f x) (map f xs) ∙ ap (λ n. cond (p (f x)) 1 0 + n) (counts-mapped p f xs) ∙ sym (sum_by-cons (λ y. cond (p (f y)) 1 0) x xs)
 
-and_true : (b : Bool) → (b && true) ≡ b
-and_true true = refl
-and_true false = refl
+both-ways : (a b : Bool) → (a && b) ≡ (b && a)
+both-ways true true = refl
+both-ways true false = refl
+both-ways false true = refl
+both-ways false false = refl
 
 -- and two tests among all as one among those who pass the other
 counts-filter : (p q : ℕ → Bool) (xs : List ℕ) → count_by p (filter q xs) ≡ count_by (λ j. p j && q j) xs
-counts-filter p q [] = refl
-counts-filter p q (x ∷ xs) =
-    elim (cases_Bool (q x)) [
-      | inl passes ↦
-          ap (count_by p) (cond-true (q x) (x ∷ filter q xs) (filter q xs) passes)
-          ∙ sum_by-cons (λ j. cond (p j) 1 0) x (filter q xs)
-          ∙ ap (λ n. cond (p x) 1 0 + n) (counts-filter p q xs)
-          ∙ ap (λ b. cond b 1 0 + count_by (λ j. p j && q j) xs) (sym (ap (λ b. p x && b) passes ∙ and_true (p x)))
-          ∙ sym (sum_by-cons (λ j. cond (p j && q j) 1 0) x xs)
-      | inr fails ↦
-          ap (count_by p) (cond-false (q x) (x ∷ filter q xs) (filter q xs) fails)
-          ∙ counts-filter p q xs
-          ∙ sym (count-cons_fails (λ j. p j && q j) x xs (and_right (p x) (q x) fails))
-    ]
+counts-filter p q xs = count-filter p q xs ∙ (λ t. count_by (λ j. both-ways (q j) (p j) t) xs)
 
 pub counted : (m : Market) (a : Matching) (s : ℕ) (roll : RollView) → RollFits m a s roll → IsCounted m a s roll
 unfolding how_many
@@ -65,7 +52,8 @@ counted m a s roll fits =
       within = fits.within;
       keyed = All-permutation (λ key. key ≡ key_of m key.student s) theirs roll.keys (IsPermutation-sym roll.keys theirs fits.holds)
           (All-map (λ key. key ≡ key_of m key.student s) (λ j. key_of m j s) (filter here (students_of m)) (λ k d low. ap (λ i. key_of m i s) (sym (key-student m _ s))));
-      exact = λ p. sym (sum_by-IsPermutation (λ (key : Key). cond (p key.student) 1 0) roll.keys theirs fits.holds) ∙ counts-of_keys m s p (filter here (students_of m)) ∙ counts-filter p here (students_of m);
+      exact = λ p. sym (sum_by-IsPermutation (λ (key : Key). cond (p key.student) 1 0) roll.keys theirs fits.holds) ∙ counts-mapped (λ (key : Key). p key.student) (λ j. key_of m j s) (filter here (students_of m)) ∙ (λ t. count_by (λ j. p (key-student m j s t)) (filter here (students_of m)))
+          ∙ counts-filter p here (students_of m);
     }
 
 -- two lists in which each test counts the same have the same members
@@ -91,13 +79,6 @@ keyed-again m s (key ∷ keys) own =
     ap (λ k. k ∷ map (λ j. key_of m j s) (map (λ (key : Key). key.student) keys)) (sym (All-head (λ key. key ≡ key_of m key.student s) key keys own))
     ∙ ap (λ l. key ∷ l) (keyed-again m s keys (All-tail (λ key. key ≡ key_of m key.student s) key keys own))
 
-counts-students : (p : ℕ → Bool) (keys : List Key) → count_by p (map (λ (key : Key). key.student) keys) ≡ count_by (λ (key : Key). p key.student) keys
-counts-students p [] = refl
-counts-students p (key ∷ keys) =
-    sum_by-cons (λ j. cond (p j) 1 0) key.student (map (λ (key : Key). key.student) keys)
-    ∙ ap (λ n. cond (p key.student) 1 0 + n) (counts-students p keys)
-    ∙ sym (sum_by-cons (λ (key : Key). cond (p key.student) 1 0) key keys)
-
 pub fits-counted : (m : Market) (a : Matching) (s : ℕ) (roll : RollView) → IsCounted m a s roll → RollFits m a s roll
 unfolding how_many
 fits-counted m a s roll counted =
@@ -108,5 +89,5 @@ fits-counted m a s roll counted =
       within = counted.within;
       holds = subst (λ keys. IsPermutation keys (map (λ j. key_of m j s) (filter here (students_of m)))) (keyed-again m s roll.keys counted.keyed)
           (IsPermutation-map (λ j. key_of m j s) who (filter here (students_of m))
-          (same-counts who (filter here (students_of m)) (λ p. counts-students p roll.keys ∙ counted.exact p ∙ sym (counts-filter p here (students_of m)))));
+          (same-counts who (filter here (students_of m)) (λ p. counts-mapped p (λ (key : Key). key.student) roll.keys ∙ counted.exact p ∙ sym (counts-filter p here (students_of m)))));
     }

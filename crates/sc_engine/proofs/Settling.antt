@@ -126,18 +126,15 @@ GivesFirst m ranks pairs k = (j : ℕ) → assigned pairs j ≡ cond (among_firs
 
 pub gives_more : (m : Market) (ranks : List (Option ℕ)) (old new : List (ℕ × ℕ)) (k i : ℕ) → slice_get (students_of m) k ≡ Some i → GivesFirst m ranks old k → ((j : ℕ) → assigned new j ≡ cond (nat_eq j i) (next_of m ranks i) (assigned old j)) → GivesFirst m ranks new (k + 1)
 gives_more m ranks old new k i here before given j =
-    given j ∙ elim (cases_Bool (nat_eq j i)) [
-      | inl same ↦
-          cond-true (nat_eq j i) (next_of m ranks i) (assigned old j) same ∙ ap (next_of m ranks) (sym (eqb-true j i same))
-          ∙ sym (cond-true (among_first (students_of m) (k + 1) j) (next_of m ranks j) None (first-more (students_of m) k i here j ∙ or_right (among_first (students_of m) k j) (j == i) same))
-      | inr apart ↦
-          cond-false (nat_eq j i) (next_of m ranks i) (assigned old j) apart ∙ before j
-          ∙ ap (λ b. cond b (next_of m ranks j) None) (sym (first-more (students_of m) k i here j ∙ without (among_first (students_of m) k j) (j == i) apart))
-    ]
+    given j ∙ ap (cond (nat_eq j i) (next_of m ranks i)) (before j)
+    ∙ go (among_first (students_of m) k j) (nat_eq j i) (λ is. ap (next_of m ranks) (sym (eqb-true j i is)))
+    ∙ ap (λ b. cond b (next_of m ranks j) None) (sym (first-more (students_of m) k i here j))
   where
-    without : (a b : Bool) → b ≡ false → (a || b) ≡ a
-    without true b off = refl
-    without false b off = off
+    go : (a b : Bool) → (b ≡ true → next_of m ranks i ≡ next_of m ranks j) → cond b (next_of m ranks i) (cond a (next_of m ranks j) None) ≡ cond (a || b) (next_of m ranks j) None
+    go true true same = same refl
+    go false true same = same refl
+    go true false same = refl
+    go false false same = refl
 
 pub gives_none : (m : Market) (ranks : List (Option ℕ)) (pairs : List (ℕ × ℕ)) (k i : ℕ) → WellFormed m → slice_get (students_of m) k ≡ Some i → GivesFirst m ranks pairs k → assigned pairs i ≡ None
 gives_none m ranks pairs k i well here gives =

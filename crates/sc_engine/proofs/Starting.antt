@@ -101,16 +101,3 @@ continues_start m r start =
       settled = subst (IsSettled (entered_papers m r.ranks)) (sym start.log) settled;
       next = λ j. ap (λ log. next_choice (entered_papers m r.ranks) log j) start.log ∙ none j ∙ sym (next-none m r.ranks j (no-rank m r.ranks start.nobody j));
     }
-
--- the round that the code starts with
-pub starts : {R : Type 0} (m : Market) (ranks : List (Option ℕ)) (rolls : List R) (see : R → RollView) (log : List Rejection) (proposals : ℕ) → WellFormed m → WithinLimits m → length ranks ≤ length m.students → StandNowhere ranks → length rolls ≡ length m.schools → AreEmpty m (map see rolls) (length m.schools) → log ≡ [] → proposals ≡ 0 → IsStart m (record { ranks = ranks; rolls = map see rolls; log = log; proposals = proposals })
-starts m ranks rolls see log proposals well within few nobody_yet as_many empty no_log none = record {
-  well_formed = well;
-  within_limits = within;
-  within = few;
-  nobody = nobody_yet;
-  rolls = length-mapped see rolls ∙ as_many;
-  empty = empty;
-  log = no_log;
-  proposals = none;
-}

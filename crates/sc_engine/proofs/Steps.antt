@@ -26,11 +26,7 @@ use Rattle.sc_engine.specs.RoundView.{RoundView, rank_of, next_of, has_entered, 
 use Rattle.sc_engine.proofs.Offers.{others-offered}
 use Rattle.sc_engine.proofs.Tables.{rank-written, rank-kept, next-by, next-kept, next-among, next-entered}
 use Rattle.sc_engine.proofs.Rolls.{fits-again, roll-fits_still, roll-holds, roll-length}
-use Rattle.sc_engine.proofs.Proposals.{Proposed, has-except, except-alike, standing-others, counted-within, counted-ended, counted-offered, fits-ended, fits-offered, nobody-goes, one-goes, put-out}
-
--- the same students have entered, in the same papers
-pub papers-same : (m : Market) (old new : List (Option ℕ)) → ((j : ℕ) → has_entered m new j ≡ has_entered m old j) → entered_papers m new ≡ entered_papers m old
-papers-same m old new same = λ t. restricted m (λ j. same j t)
+use Rattle.sc_engine.proofs.Proposals.{Proposed, has-except, except-alike, standing-others, counted-ended, counted-offered, fits-ended, fits-offered, nobody-goes, one-goes, put-out}
 
 -- the entry of a rejection
 abbrev pub entry_of : ℕ → ℕ → Rejection
@@ -137,7 +133,7 @@ module _ {m : Market} {r r' : RoundView} {i s at rank : ℕ} (refused : Refused 
       (λ t. subst (λ rolls. RollFits m (except away next') t (roll_of m rolls t)) (sym refused.rolls)
       (roll-fits_still m (except away next) (except away next') t (roll_of m r.rolls t)
       (λ j. sym (has-agree (except away next') (except away next) t j (except-alike away next' next i hand.gone (next-stays refused.moved) j))) (hand.fits.each t)))
-      (counted-within m r away r' away counted-refused hand.fits.proposals)
+      (omega (arith, counted-refused, hand.fits.proposals))
 
   midway-refused : (earlier : List Rejection) → Midway m earlier r → Midway m earlier r'
   midway-refused earlier midway =
@@ -145,7 +141,7 @@ module _ {m : Market} {r r' : RoundView} {i s at rank : ℕ} (refused : Refused 
       let log : List Rejection = earlier ++ r.log in
       let e : Rejection = entry_of i s in
       let valid : IsValidEntry n log e = refusal-valid m earlier r away i s hand refused.put midway in
-      let same_papers : entered_papers m r'.ranks ≡ n = papers-same m r.ranks r'.ranks (entered-stays refused.moved) in
+      let same_papers : entered_papers m r'.ranks ≡ n = λ t. restricted m (λ j. entered-stays refused.moved j t) in
       let same_log : earlier ++ r'.log ≡ log ++ e ∷ [] = ap (λ l. earlier ++ l) refused.moved.log ∙ sym (append_assoc earlier r.log (e ∷ [])) in
       let chosen : choices_of n i ≡ choices_of m i = choices-restricted m (has_entered m r.ranks) i ∙ ap (λ b. cond b (choices_of m i) []) (ap is_some refused.moved.stood) in
       let moves : next_choice n (log ++ e ∷ []) i ≡ next_of m r'.ranks i =

@@ -1,5 +1,5 @@
 -- Look-ups by position, and what one write changes.
-use Rattle.std.proofs.Common.{◌≡◌, refl, ap, ◌∙◌, ℕ, zero, suc, ◌<◌, nat_eq, true, List, [], ◌∷◌, length, get_or, set, map, Option, Some, None, Contains, is_some, position, slice_get, arith, get_or-set_other, get_or-set_same}
+use Rattle.std.proofs.Common.{◌≡◌, refl, ap, sym, ◌∙◌, ℕ, zero, suc, ◌<◌, nat_eq, true, List, [], ◌∷◌, length, get_or, set, map, Option, Some, None, Contains, is_some, position, slice_get, arith, get_or-set_other, get_or-set_same}
 use Rattle.std.specs.Option.{option_map_or, option_and_then}
 use Rattle.std.proofs.lemmas.Option.{none-some}
 use Rattle.sc_papers.specs.Market.{Market, students_of, schools_of, choices_of}
@@ -45,14 +45,24 @@ pub rank-at : (m : Market) (ranks : List (Option ℕ)) (i at : ℕ) → position
 unfolding rank_of
 rank-at m ranks i at found = ap (λ o. option_map_or (λ k. get_or ranks k None) o None) found
 
+-- the position of one who has entered
+pub record PositionOf (m : Market) (ranks : List (Option ℕ)) (i rank : ℕ) : Type 0 where
+  pub at : ℕ
+  pub found : position (nat_eq i) (students_of m) ≡ Some at
+  pub low : at < length (students_of m)
+  pub here : get_or ranks at None ≡ Some rank
+
+pub position-of : (m : Market) (ranks : List (Option ℕ)) (i rank : ℕ) → rank_of m ranks i ≡ Some rank → PositionOf m ranks i rank
+unfolding rank_of
+position-of m ranks i rank is = go (position (nat_eq i) (students_of m)) refl is
+  where
+    go : (o : Option ℕ) → position (nat_eq i) (students_of m) ≡ o → option_map_or (λ k. get_or ranks k None) o None ≡ Some rank → PositionOf m ranks i rank
+    go None at none = absurd (none-some rank none)
+    go (Some k) at there = record { at = k; found = at; low = (position-at (students_of m) i k at).0; here = there }
+
 -- who has entered is a student of the papers
 pub entered-among : (m : Market) (ranks : List (Option ℕ)) (i rank : ℕ) → rank_of m ranks i ≡ Some rank → Contains (students_of m) i
-unfolding rank_of
-entered-among m ranks i rank is = go (position (nat_eq i) (students_of m)) refl is
-  where
-    go : (o : Option ℕ) → position (nat_eq i) (students_of m) ≡ o → option_map_or (λ k. get_or ranks k None) o None ≡ Some rank → Contains (students_of m) i
-    go None at none = absurd (none-some rank none)
-    go (Some k) at there = position-among (students_of m) i k at
+entered-among m ranks i rank is = let place = position-of m ranks i rank is in position-among (students_of m) i place.at place.found
 
 -- a student with a next choice stands at a rank of their choices
 pub record StandsAt (m : Market) (ranks : List (Option ℕ)) (i s : ℕ) : Type 0 where
@@ -83,6 +93,15 @@ pub next-none : (m : Market) (ranks : List (Option ℕ)) (i : ℕ) → rank_of m
 unfolding next_of
 next-none m ranks i is = ap (option_and_then (λ k. slice_get (choices_of m i) k)) is
 
+-- none for one whose position has no rank
+pub next_absent : (m : Market) (ranks : List (Option ℕ)) (i at : ℕ) → position (nat_eq i) (students_of m) ≡ Some at → get_or ranks at None ≡ None → next_of m ranks i ≡ None
+next_absent m ranks i at found absent = next-none m ranks i (rank-at m ranks i at found ∙ absent)
+
+-- nor for one who is not in the papers
+pub next_nowhere : (m : Market) (ranks : List (Option ℕ)) (i : ℕ) → None ≡ position (nat_eq i) (students_of m) → next_of m ranks i ≡ None
+unfolding rank_of
+next_nowhere m ranks i none = next-none m ranks i (ap (λ o. option_map_or (λ at. get_or ranks at None) o None) (sym none))
+
 -- equal ranks give equal next choices
 pub next-kept : (m : Market) (old new : List (Option ℕ)) (i : ℕ) → rank_of m new i ≡ rank_of m old i → next_of m new i ≡ next_of m old i
 unfolding next_of
@@ -101,18 +120,3 @@ roll-kept m old new s at found others t apart = go (position (nat_eq t) (schools
     go : (o : Option ℕ) → position (nat_eq t) (schools_of m) ≡ o → option_map_or (roll_at new) o no_roll ≡ option_map_or (roll_at old) o no_roll
     go None is = refl
     go (Some k) is = others k (λ same. apart (position-one (schools_of m) s t at found (is ∙ ap Some same)))
-
--- the position of one who has entered
-pub record PositionOf (m : Market) (ranks : List (Option ℕ)) (i rank : ℕ) : Type 0 where
-  pub at : ℕ
-  pub found : position (nat_eq i) (students_of m) ≡ Some at
-  pub low : at < length (students_of m)
-  pub here : get_or ranks at None ≡ Some rank
-
-pub position-of : (m : Market) (ranks : List (Option ℕ)) (i rank : ℕ) → rank_of m ranks i ≡ Some rank → PositionOf m ranks i rank
-unfolding rank_of
-position-of m ranks i rank is = go (position (nat_eq i) (students_of m)) refl is
-  where
-    go : (o : Option ℕ) → position (nat_eq i) (students_of m) ≡ o → option_map_or (λ k. get_or ranks k None) o None ≡ Some rank → PositionOf m ranks i rank
-    go None at none = absurd (none-some rank none)
-    go (Some k) at there = record { at = k; found = at; low = (position-at (students_of m) i k at).0; here = there }

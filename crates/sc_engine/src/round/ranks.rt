@@ -55,7 +55,7 @@ fn rank_at(ranks: &[Option<u8>], at: usize) -> Option<usize>
 }
 
 /// The choice at which the student at the position stands.
-#[tactic(auto, using(crate::proofs::Hands::next_absent))]
+#[tactic(auto, using(crate::proofs::Tables::next_absent))]
 fn choice_at(ranks: &[Option<u8>], papers: &FlatPapers, at: usize) -> Option<SchoolNo>
     requires { at < length papers.now.students }
     ensures { (i : ℕ) → position (nat_eq i) (students_of papers.now) ≡ Some at
@@ -69,7 +69,7 @@ fn choice_at(ranks: &[Option<u8>], papers: &FlatPapers, at: usize) -> Option<Sch
 ///
 /// It is taken into the loop that asks for it, so that what it answers stays in registers.
 #[inline(always)]
-#[tactic(auto, using(crate::proofs::Hands::next_absent, crate::proofs::Proposing::proposes_nothing))]
+#[tactic(auto, using(crate::proofs::Tables::next_absent, crate::proofs::Proposing::proposes_nothing))]
 pub(super) fn proposal_of(ranks: &[Option<u8>], papers: &FlatPapers, at: usize) -> Option<Proposal>
     requires { at < length papers.now.students }
     ensures { (i : ℕ) → position (nat_eq i) (students_of papers.now) ≡ Some at
@@ -80,7 +80,7 @@ pub(super) fn proposal_of(ranks: &[Option<u8>], papers: &FlatPapers, at: usize) 
 }
 
 /// The choice at which the student stands.
-#[tactic(auto, using(crate::proofs::Hands::next_nowhere))]
+#[tactic(auto, using(crate::proofs::Tables::next_nowhere))]
 pub(super) fn next_in(
     ranks: &[Option<u8>],
     papers: &FlatPapers,
@@ -92,7 +92,7 @@ pub(super) fn next_in(
 }
 
 /// The choice at which the student stands, who often is at the guessed position: then no number is looked up.
-#[tactic(auto, using(crate::proofs::Hands::next_nowhere))]
+#[tactic(auto, using(crate::proofs::Tables::next_nowhere))]
 pub(super) fn next_near(
     ranks: &[Option<u8>],
     papers: &FlatPapers,

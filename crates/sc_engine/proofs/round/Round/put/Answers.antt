@@ -1,9 +1,9 @@
-use Rattle.std.proofs.Common.{◌≡◌, refl, ap, sym, subst, ◌∙◌, ℕ, ◌<◌, nat_eq, List, Option, Some, None, Contains, IfSome, position, arith}
+use Rattle.std.proofs.Common.{◌≡◌, refl, ap, sym, subst, ◌∙◌, ℕ, ◌<◌, List, Option, Some, None, Contains, IfSome, slice_get, arith}
 use Rattle.std.specs.Option.{option_map}
-use Rattle.sc_papers.specs.Key.{key_of}
-use Rattle.sc_papers.specs.Market.{choices_of, schools_of, seats_of}
+use Rattle.sc_papers.specs.Market.{choices_of, seats_of}
 use Rattle.sc_papers.specs.Matching.{held}
 use Rattle.sc_papers.specs.declared.proposal.Proposal.{Proposal}
+use Rattle.sc_engine.specs.Proposals.{IsProposal}
 use Rattle.sc_engine.specs.RoundView.{RoundView, next_of, only, StandsToo}
 use Rattle.sc_engine.specs.Round.{view_of}
 use Rattle.sc_engine.specs.Rolls.{rolls_of}
@@ -11,10 +11,11 @@ use Rattle.sc_engine.proofs.Beginning.{Begun, moved, begins, away-begun}
 use Rattle.sc_papers.proofs.Entering.{is_some-false}
 use Rattle.sc_papers.proofs.Hands.{student-there}
 use Rattle.sc_engine.proofs.Moves.{roll-new, proposed-told}
-use Rattle.sc_engine.proofs.Putting.{next-begun, proposal-told, put-nowhere, roll-open, put-on_roll}
+use Rattle.sc_engine.proofs.Proposing.{proposes_there}
+use Rattle.sc_engine.proofs.Putting.{next-begun, put-nowhere, roll-open, put-on_roll}
 use Rattle.sc_engine.proofs.round.Round.put.Given as given
 use Rattle.sc_engine.proofs.round.Round.put.Goals as goal
-use Rattle.sc_engine.proofs.round.Round.put.Goals.{After-of-offered, In_ok-put}
+use Rattle.sc_engine.proofs.round.Round.put.Goals.{In-Some, In_ok-put}
 
 -- the round with the student at their rank
 abbrev mid : (g : given.Over) (c : In_ok-put g) → RoundView
@@ -25,13 +26,15 @@ begun g c =
     begins c.args.papers.now (view_of g.R.Roll.keys g.R.Roll.seats c.args.self.now) c.make_room.new.self c.args.choice.student c.position_near-at.result c.rank_in-rank.result c.requires.fits c.position_near-at.ensures
     c.requires.absent c.in_ok-make_room.ensures.room c.in_ok-make_room.ensures.same c.in_ok-make_room.ensures.within
 
--- what is offered, and where
-told : (g : given.Over) (c : After-of-offered g)
-    → (c.args.choice.next ≡ Some c.in-Some.proposal.school) × (position (nat_eq c.in-Some.proposal.school) (schools_of c.args.papers.now) ≡ Some c.in-Some.proposal.position) × (c.of-offered.result ≡ key_of c.args.papers.now c.args.choice.student c.in-Some.proposal.school)
+-- what the papers tell is a proposal to the choice
+told : (g : given.Over) (c : In-Some g) → IsProposal c.args.papers.now c.args.choice.student c.args.choice.next (Some c.in-Some.proposal)
 told g c =
     let papers = c.args.papers.now in
-    let (is, place, own) = proposal-told papers c.position_near-at.result c.rank_in-rank.result c.args.choice.next c.proposal.result c.in-Some.proposal c.rank_in-rank.ensures.rank c.proposal.ensures.school c.proposal.ensures.position c.proposal.ensures.key c.in-Some.is in
-    (is, place, c.of-offered.ensures ∙ own ∙ ap (λ i. key_of papers i c.in-Some.proposal.school) (student-there papers c.args.choice.student c.position_near-at.result c.position_near-at.ensures))
+    let i = c.args.choice.student in
+    let there = student-there papers i c.position_near-at.result c.position_near-at.ensures in
+    subst (λ (choice : Option ℕ). IsProposal papers i choice (Some c.in-Some.proposal)) (ap (λ j. slice_get (choices_of papers j) c.rank_in-rank.result) (sym there) ∙ c.rank_in-rank.ensures.rank)
+    (subst (IsProposal papers i (slice_get (choices_of papers i) c.rank_in-rank.result)) c.in-Some.is
+    (proposes_there papers i c.position_near-at.result c.rank_in-rank.result c.proposal.result there c.proposal.ensures.school c.proposal.ensures.position c.proposal.ensures.key))
 
 pub rank_in-rank-requires-clause-listed : goal.rank_in-rank-requires-clause-listed
 rank_in-rank-requires-clause-listed g c =
@@ -49,19 +52,19 @@ returns-in_default-clause-stands g c =
 pub offer_to-requires-clause-new : goal.offer_to-requires-clause-new
 offer_to-requires-clause-new g c =
     let at = goal.at.offer_to-requires-clause-new g c in
-    let (is, place, key) = told g at.After-of-offered in
+    let so = told g at.In-Some in
     roll-new c.args.papers.now _ (only c.args.choice.student) c.args.choice.student c.in-Some.proposal.school c.in-Some.proposal.position c.of-offered.result
-    (away-begun (begun g at.In_ok-put)) place key
+    (away-begun (begun g at.In_ok-put)) so.position (c.of-offered.ensures ∙ so.key)
 
 pub unreachable-requires : goal.unreachable-requires
 unreachable-requires g c =
     let papers = c.args.papers.now in
     let old = view_of g.R.Roll.keys g.R.Roll.seats c.args.self.now in
-    let (is, place, key) = told g (goal.at.unreachable-requires g c).After-of-offered in
+    let so = told g (goal.at.unreachable-requires g c).In-Some in
     omega (
       arith,
-      roll-open papers old c.in-Some.proposal.school c.in-Some.proposal.position c.requires.fits place
-      (subst (λ (o : Option ℕ). IfSome o (λ s. held papers (next_of papers old.ranks) s < seats_of papers s)) is c.requires.room),
+      roll-open papers old c.in-Some.proposal.school c.in-Some.proposal.position c.requires.fits so.position
+      (subst (λ (o : Option ℕ). IfSome o (λ s. held papers (next_of papers old.ranks) s < seats_of papers s)) (sym so.school) c.requires.room),
       c.in_ok-out.ensures.full (sym c.is_some.ensures ∙ c.if-is_some.true),
     )
 
@@ -72,11 +75,11 @@ returns-clause-stands g c =
     let rolls = rolls_of g.R.Roll.keys g.R.Roll.seats c.offer_to.new.rolls.items in
     let at = goal.at.returns-clause-stands g c in
     let put = mid g at.In_ok-put in
-    let (is, place, key) = told g at.After-of-offered in
+    let so = told g at.In-Some in
     let start = begun g at.In_ok-put in
     subst (λ (ranks : List (Option ℕ)). StandsToo papers old (record old { ranks = ranks; rolls = rolls }) c.args.choice.student c.args.choice.next) (sym c.in_ok-put.ensures)
-    (put-on_roll start (record put { rolls = rolls }) c.args.choice.next c.in-Some.proposal.school c.in-Some.proposal.position c.rank_in-rank.ensures.rank is
+    (put-on_roll start (record put { rolls = rolls }) c.args.choice.next c.in-Some.proposal.school c.in-Some.proposal.position c.rank_in-rank.ensures.rank (sym so.school)
     (proposed-told papers put (only c.args.choice.student) c.args.choice.student c.in-Some.proposal.school c.in-Some.proposal.position c.of-offered.result rolls c.in_ok-out.out None
-    (away-begun start) (next-begun start c.args.choice.next c.rank_in-rank.ensures.rank ∙ is) place key c.in_ok-out.ensures
+    (away-begun start) (next-begun start c.args.choice.next c.rank_in-rank.ensures.rank ∙ sym so.school) so.position (c.of-offered.ensures ∙ so.key) c.in_ok-out.ensures
     (is_some-false c.in_ok-out.out (sym c.is_some.ensures ∙ c.if-is_some.false)))
     refl refl refl)
