@@ -7,9 +7,8 @@ use Rattle.sc_papers.specs.Log.{next_choice, is_rejected, IsSettled, IsValidLog}
 use Rattle.sc_papers.specs.Chain.{and_one}
 use Rattle.sc_papers.specs.Restriction.{restricted}
 use Rattle.sc_papers.specs.declared.rejection.Rejection.{Rejection}
-use Rattle.sc_papers.specs.declared.records.Student.{Student}
 use Rattle.sc_papers.proofs.Entering.{is_some-false}
-use Rattle.sc_papers.proofs.Positions.{position-at}
+use Rattle.sc_papers.proofs.Hands.{position-low}
 use Rattle.sc_papers.proofs.Rejections.{is_of, rejected-push, find-agree, has-agree}
 use Rattle.sc_papers.proofs.Restriction.{restricted-restricts, next-kept, next-dropped}
 use Rattle.sc_papers.proofs.Subsets.{next-passes, valid-grows}
@@ -152,9 +151,7 @@ begins m r room i at rank fits found absent low same within = record {
   absent = absent;
   own = get_or-set_same room at (Some rank) None low;
   others = λ k other. get_or-set_other room at k (Some rank) None other ∙ same k;
-  within =
-      let here : at < length m.students = omega (arith, (position-at (students_of m) i at found).0, tables.length-mapped (λ (e : ℕ × Student). e.0) m.students) in
-      omega (arith, length-set room at (Some rank), within (length m.students) here fits.ranks);
+  within = omega (arith, length-set room at (Some rank), within (length m.students) (position-low m i at found) fits.ranks);
   rolls = refl;
   log = refl;
   proposals = refl;

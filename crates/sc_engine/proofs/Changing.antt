@@ -4,7 +4,7 @@ use Rattle.std.specs.Map.{keys_of, lookup}
 use Rattle.std.specs.Option.{option_map_or}
 use Rattle.std.proofs.lemmas.Bool.{and_right, cases_Bool, cases_eq, cond-true}
 use Rattle.std.proofs.lemmas.List.Elements.{All-contains_itself, All-weaker}
-use Rattle.std.proofs.lemmas.Option.{none-some}
+use Rattle.std.proofs.lemmas.Option.{none-some, same_Some}
 use Rattle.sc_papers.specs.Key.{key_of}
 use Rattle.sc_papers.specs.Market.{Market, choices_of, is_school, schools_of, seats_of, student_of, students_of}
 use Rattle.sc_papers.specs.Matching.{has, how_many}
@@ -122,9 +122,6 @@ pub rank-same : (m n : Market) (ranks : List (Option ℕ)) (i : ℕ) → student
 unfolding rank_of
 rank-same m n ranks i students = ap (λ (is : List ℕ). option_map_or (λ at. slice_index_or ranks at None) (position (nat_eq i) is) None) students
 
-one-school : (t u : ℕ) → Some t ≡ Some u → t ≡ u
-one-school t u same = cc
-
 pub same-roll : (m n : Market) (rolls : List RollView) (s : ℕ) → schools_of n ≡ schools_of m → roll_of n rolls s ≡ roll_of m rolls s
 unfolding roll_of
 same-roll m n rolls s schools = ap (λ (is : List ℕ). option_map_or (roll_at rolls) (position (nat_eq s) is) no_roll) schools
@@ -151,14 +148,14 @@ reseated-rolls m n amended old new reseated schools fits empty seats s = go amen
             let none : roll_of n new.rolls s ≡ no_roll = roll-unknown n new.rolls s unknown in
             (ap (λ (roll : RollView). roll.keys) none ∙ sym (empty s (is ∙ ap Some here)), ap (λ (roll : RollView). roll.seats) none ∙ sym (no-seats n s unknown))
       ]
-      | inr apart ↦ stays (λ same. apart (one-school t s (sym is ∙ same)))
+      | inr apart ↦ stays (λ same. apart (same_Some t s (sym is ∙ same)))
     ]
 
 -- a roll that was written at a school's position
 pub reseated_at : {R : Type 0} (see : R → RollView) (m : Market) (old new : RoundView) (rolls : List R) (s at : ℕ) (roll : R) → position (nat_eq s) (schools_of m) ≡ Some at → at < length rolls → (see roll).keys ≡ [] → (see roll).seats ≡ seats_of m s
     → old.rolls ≡ map see rolls → new ≡ record old { rolls = map see (set rolls at roll) } → IsReseated m (Some s) old new
 reseated_at see m old new rolls s at roll found low none seats was is = subst (IsReseated m (Some s) old) (sym is) (record {
-  own = λ t same known. subst (λ u. roll_of m (map see (set rolls at roll)) u ≡ record { keys = []; seats = seats_of m u }) (one-school s t same)
+  own = λ t same known. subst (λ u. roll_of m (map see (set rolls at roll)) u ≡ record { keys = []; seats = seats_of m u }) (same_Some s t same)
       (roll-at m (map see (set rolls at roll)) s at found ∙ roll_set_same see rolls at roll low ∙ (λ t. let seen : RollView = record { keys = none t; seats = seats t } in seen));
   others = λ t apart.
       roll-kept m (map see rolls) (map see (set rolls at roll)) s at found (λ other far. roll_set_other see rolls at roll other far) t (λ same. apart (ap Some (sym same)))
@@ -171,7 +168,7 @@ reseated_at see m old new rolls s at roll found low none seats was is = subst (I
 
 pub reseated_nowhere : (m : Market) (s : ℕ) (round : RoundView) → position (nat_eq s) (schools_of m) ≡ None → IsReseated m (Some s) round round
 reseated_nowhere m s round none = record {
-  own = λ t same known. absurd (school-has_position m t known (sym none ∙ ap (λ u. position (nat_eq u) (schools_of m)) (one-school s t same)));
+  own = λ t same known. absurd (school-has_position m t known (sym none ∙ ap (λ u. position (nat_eq u) (schools_of m)) (same_Some s t same)));
   others = λ t apart. refl;
   same_length = refl;
   ranks = refl;

@@ -10,9 +10,9 @@ use Rattle.std.proofs.lemmas.Map.Keys.{IsDistinct-IsPermutation}
 use Rattle.std.proofs.lemmas.Option.{none-some}
 use Rattle.sc_papers.specs.Log.{next_choice}
 use Rattle.sc_papers.specs.Market.{Market, choices_of, student_at, students_of}
-use Rattle.sc_papers.specs.declared.records.Student.{Student}
+use Rattle.sc_papers.proofs.Hands.{position-low}
 use Rattle.sc_papers.proofs.Entering.{is_some-false}
-use Rattle.sc_papers.proofs.Positions.{any-among, position-among, position-at, position-found}
+use Rattle.sc_papers.proofs.Positions.{any-among, position-among, position-found}
 use Rattle.sc_papers.proofs.Restriction.{choices-restricted}
 use Rattle.sc_engine.specs.Applicants.{numbers_of, AreEverybody, IsWithin}
 use Rattle.sc_engine.specs.RoundView.{RoundView, Fits, Midway, entered_papers, except, has_entered, next_of, rank_of, roll_of}
@@ -21,7 +21,7 @@ use Rattle.sc_engine.specs.declared.applicants.Applicant.{Applicant}
 use Rattle.sc_engine.proofs.Beginning.{first-choice}
 use Rattle.sc_engine.proofs.Proposals.{has-none}
 use Rattle.sc_engine.proofs.Rolls.{fits-again, roll-fits_still}
-use Rattle.sc_engine.proofs.Tables.{length-mapped, next-by, next-none}
+use Rattle.sc_engine.proofs.Tables.{next-by, next-none}
 
 -- the students in order of entry, moved
 pub everybody_moved : (m : Market) (applicants moved result : List Applicant) → numbers_of m applicants ≡ students_of m → All (IsWithin m) applicants → IsPermutation applicants moved → result ≡ moved → AreEverybody m result
@@ -43,7 +43,7 @@ first-rank m i = go (position (nat_eq i) (students_of m)) refl
     go None is = inr (false_from_ne_true (among (students_of m) i) (λ holds. none-some _ (sym is ∙ position-found (students_of m) i holds)), refl)
     go (Some k) is = inl (
       any-among (students_of m) i (position-among (students_of m) i k is),
-      get_or-replicate (length m.students) k (Some 0) None (omega (arith, (position-at (students_of m) i k is).0, length-mapped (λ (e : ℕ × Student). e.0) m.students)),
+      get_or-replicate (length m.students) k (Some 0) None (position-low m i k is),
     )
 
 -- everybody waits at their first choice, where nobody had entered

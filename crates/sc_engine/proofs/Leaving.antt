@@ -1,6 +1,6 @@
 -- Students who leave a round together, where nobody else lists a school that one of them lists.
-use Rattle.std.proofs.Common.{◌≡◌, ◌⊎◌, inl, inr, refl, ap, sym, subst, ◌∙◌, ℕ, ◌+◌, ◌<◌, nat_eq, Bool, true, false, ◌&&◌, List, [], ◌∷◌, length, take, get_or, map, set, Option, None, Some, Contains, IfSome, position, arith, length-set}
-use Rattle.std.specs.Option.{option_map, option_map_or, unwrap_or}
+use Rattle.std.proofs.Common.{◌≡◌, ◌⊎◌, inl, inr, refl, ap, sym, subst, ◌∙◌, ℕ, ◌+◌, ◌<◌, nat_eq, Bool, true, false, ◌&&◌, List, [], ◌∷◌, length, take, get_or, map, set, Option, None, Some, Contains, position, arith, length-set}
+use Rattle.std.specs.Option.{option_map_or, unwrap_or}
 use Rattle.std.proofs.lemmas.Bool.{cases_Bool, cases_eq, false≢true, and_right}
 use Rattle.std.proofs.lemmas.List.{take_more}
 use Rattle.std.proofs.lemmas.List.Elements.{Contains-append_left, Contains-get_or, Contains-push, Contains-push_cases}
@@ -16,7 +16,7 @@ use Rattle.sc_papers.specs.declared.records.School.{School}
 use Rattle.sc_papers.proofs.Hands.{hand-position}
 use Rattle.sc_papers.proofs.Choices.{contains-at}
 use Rattle.sc_papers.proofs.Positions.{position-at, position-one, position-there}
-use Rattle.sc_papers.proofs.Rejections.{has-agree, has-true}
+use Rattle.sc_papers.proofs.Rejections.{has-true}
 use Rattle.sc_papers.proofs.Students.{how_many-none}
 use Rattle.sc_seats.specs.Roll.{RollView}
 use Rattle.sc_engine.specs.Leaving.{AreEmptied, AreWithin, Leave, SomeStands, StandAt, StandsThere}

@@ -41,8 +41,8 @@ pub put-refused : (m : Market) (r : RoundView) (i s at : ℕ) (key : Key) → ne
 put-refused m r i s at key stands school is offered = record {
   stands = stands;
   refused = subst (λ (roll : RollView). Refuses roll.keys roll.seats (key_of m i s)) (sym (roll-at m r.rolls s at school)) (record {
-    full = offered.full refl;
-    behind = subst (λ k. All (λ held. is_before held k ≡ true) (roll_at r.rolls at).keys) is offered.last;
+    full = offered.own.full refl;
+    behind = subst (λ k. All (λ held. is_before held k ≡ true) (roll_at r.rolls at).keys) is offered.own.last;
   });
 }
 
@@ -56,15 +56,13 @@ refused-told m r r' i s place put found rolls log moved one_more =
       stood.rank,
       record {
         put = put;
-        moved = record {
-          student = found;
-          low = rank-low r.ranks place stood.rank here;
-          stood = stood.entered;
-          choice = stood.choice;
-          ranks = moved stood.rank here;
-          log = log;
-        };
+        student = found;
+        low = rank-low r.ranks place stood.rank here;
+        stood = stood.entered;
+        choice = stood.choice;
+        ranks = moved stood.rank here;
         rolls = rolls;
+        log = log;
         proposals = one_more;
       },
     )
@@ -79,5 +77,5 @@ passed-more m first r r' away i place made hand before is offered found rolls lo
     let put = put-refused m r i made.school made.position made.key (sym is.school) is.position is.key offered in
     let told = refused-told m r r' i made.school place put found rolls (log ∙ ap (λ j. r.log ++ entry_of j made.school ∷ []) own) moved one_more in (
       passes-after before (passes-refused told.1 away (record { fits = before.moves.fits; gone = hand.gone })),
-      omega (arith, left-refused hand.fits.well_formed told.1.moved),
+      omega (arith, left-refused hand.fits.well_formed told.1),
     )

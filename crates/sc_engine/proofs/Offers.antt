@@ -1,7 +1,6 @@
 -- An offer to the roll at a position, from what the roll itself says.
-use Rattle.std.proofs.Common.{◌≡◌, ◌⊎◌, inl, inr, ap, sym, subst, ◌∙◌, ℕ, ◌<◌, ◌≤◌, nat_eq, true, List, ◌∷◌, ◌++◌, length, get_or, set, map, Option, None, Some, All, Contains, IfSome, IsSome, position, arith, length-set, get_or-set_other, get_or-set_same}
-use Rattle.std.specs.List.Sorted.{IsPermutation}
-use Rattle.std.specs.Option.{option_map_or, option_to_list}
+use Rattle.std.proofs.Common.{◌≡◌, ◌⊎◌, inl, inr, ap, sym, subst, ◌∙◌, ℕ, ◌<◌, nat_eq, true, List, ◌∷◌, length, get_or, set, map, Option, None, Some, Contains, position, arith, length-set, get_or-set_other, get_or-set_same}
+use Rattle.std.specs.Option.{option_map_or}
 use Rattle.std.proofs.lemmas.Bool.{cases_eq, false≢true}
 use Rattle.std.proofs.lemmas.List.Elements.{All-contains, All-contains_itself, All-weaker}
 use Rattle.std.proofs.lemmas.List.Sorted.{Contains-permutation, IsPermutation-sym, length_permutation}
@@ -12,16 +11,8 @@ use Rattle.sc_papers.proofs.Counting.{contains-cons, contains-head, contains-tai
 use Rattle.sc_papers.proofs.Priority.{before-irrefl, before-trans}
 use Rattle.sc_papers.specs.declared.key.Key.{Key}
 use Rattle.sc_seats.specs.Roll.{RollView, Refuses}
-use Rattle.sc_engine.specs.RoundView.{RoundView, OffersAt, OthersStay, next_of, no_roll, roll_at, roll_of}
+use Rattle.sc_engine.specs.RoundView.{RoundView, Offers, OffersAt, OthersStay, next_of, no_roll, roll_at, roll_of}
 use Rattle.sc_engine.proofs.Tables.{length-mapped}
-
--- what one roll's offer says
-pub record Offers (old new : RollView) (key : Key) (out : Option Key) : Type 0 where
-  pub together : IsPermutation (key ∷ old.keys) (option_to_list out ++ new.keys)
-  pub last : IfSome out (λ worst. All (λ held. is_before held worst ≡ true) new.keys)
-  pub full : IsSome out → length old.keys ≡ old.seats
-  pub seats : new.seats ≡ old.seats
-  pub within : length new.keys ≤ new.seats
 
 -- what is seen of a roll
 abbrev pub seen_by : {R : Type 0} → (R → List Key) → (R → ℕ) → R → RollView
@@ -38,11 +29,7 @@ OffersAt_from see rolls at old new key out low is offers =
     let same : map see (set rolls at new) ≡ set (map see rolls) at (see new) = map-set see rolls at new in
     let after : roll_at (map see (set rolls at new)) at ≡ see new = ap (λ rs. roll_at rs at) same ∙ get_or-set_same (map see rolls) at (see new) no_roll low_seen in
     record {
-      together = subst (λ (r : RollView). IsPermutation (key ∷ (roll_at (map see rolls) at).keys) (option_to_list out ++ r.keys)) (sym after) (subst (λ (r : RollView). IsPermutation (key ∷ r.keys) (option_to_list out ++ (see new).keys)) (sym before) offers.together);
-      last = subst (λ (r : RollView). IfSome out (λ worst. All (λ held. is_before held worst ≡ true) r.keys)) (sym after) offers.last;
-      full = λ some. subst (λ (r : RollView). length r.keys ≡ r.seats) (sym before) (offers.full some);
-      seats = ap (λ (r : RollView). r.seats) after ∙ offers.seats ∙ ap (λ (r : RollView). r.seats) (sym before);
-      within = subst (λ (r : RollView). length r.keys ≤ r.seats) (sym after) offers.within;
+      own = subst (λ (r : RollView). Offers r (roll_at (map see (set rolls at new)) at) key out) (sym before) (subst (λ (r : RollView). Offers (see old) r key out) (sym after) offers);
       others = λ other apart. ap (λ rs. roll_at rs other) same ∙ get_or-set_other (map see rolls) at other (see new) no_roll apart;
       same_length = ap length same ∙ length-set (map see rolls) at (see new);
     }
@@ -50,19 +37,19 @@ OffersAt_from see rolls at old new key out low is offers =
 -- a roll that would refuse a key does so after another is offered to it
 refuses-at : (old new : List RollView) (at : ℕ) (key : Key) (out : Option Key) (asked : Key) → OffersAt old new at key out → Refuses (roll_at old at).keys (roll_at old at).seats asked → Refuses (roll_at new at).keys (roll_at new at).seats asked
 refuses-at old new at key None asked offered refuses =
-    absurd (omega (arith, length_permutation (key ∷ (roll_at old at).keys) (roll_at new at).keys offered.together, offered.within, offered.seats, refuses.full))
+    absurd (omega (arith, length_permutation (key ∷ (roll_at old at).keys) (roll_at new at).keys offered.own.together, offered.own.within, offered.own.seats, refuses.full))
 refuses-at old new at key (Some worst) asked offered refuses = record {
-  full = omega (arith, length_permutation (key ∷ (roll_at old at).keys) (worst ∷ (roll_at new at).keys) offered.together, offered.seats, refuses.full);
+  full = omega (arith, length_permutation (key ∷ (roll_at old at).keys) (worst ∷ (roll_at new at).keys) offered.own.together, offered.own.seats, refuses.full);
   behind = All-weaker (Contains (roll_at new at).keys) (λ held. is_before held asked ≡ true) behind (roll_at new at).keys (All-contains_itself (roll_at new at).keys);
 }
   where
     from : (held : Key) → Contains (worst ∷ (roll_at new at).keys) held → (key ≡ held) ⊎ Contains (roll_at old at).keys held
     from held among =
         contains-cons key (roll_at old at).keys held
-        (Contains-permutation (worst ∷ (roll_at new at).keys) (key ∷ (roll_at old at).keys) held (IsPermutation-sym (key ∷ (roll_at old at).keys) (worst ∷ (roll_at new at).keys) offered.together) among)
+        (Contains-permutation (worst ∷ (roll_at new at).keys) (key ∷ (roll_at old at).keys) held (IsPermutation-sym (key ∷ (roll_at old at).keys) (worst ∷ (roll_at new at).keys) offered.own.together) among)
 
     before : (held : Key) → Contains (roll_at new at).keys held → is_before held worst ≡ true
-    before held among = All-contains (λ h. is_before h worst ≡ true) (roll_at new at).keys held offered.last among
+    before held among = All-contains (λ h. is_before h worst ≡ true) (roll_at new at).keys held offered.own.last among
 
     asked-after : (held : Key) → Contains (roll_at old at).keys held → is_before held asked ≡ true
     asked-after held among = All-contains (λ h. is_before h asked ≡ true) (roll_at old at).keys held refuses.behind among

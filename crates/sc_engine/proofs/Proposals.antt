@@ -184,7 +184,7 @@ module _ {m : Market} {r : RoundView} {away : ℕ → Bool} {proposer s at : ℕ
       let next : Matching = next_of m r.ranks in
       elim (cases_eq t s) [
         | inl at_s ↦ subst (λ u. RollFits m (except after next) u (roll_of m rolls u)) (sym at_s) (subst (RollFits m (except after next) s) (sym roll-after)
-            (fits-counted m (except after next) s (roll_at rolls at) (record { seats = done.offered.seats ∙ roll-before.seats; within = done.offered.within; keyed = keyed; exact = exact })))
+            (fits-counted m (except after next) s (roll_at rolls at) (record { seats = done.offered.own.seats ∙ roll-before.seats; within = done.offered.own.within; keyed = keyed; exact = exact })))
         | inr apart ↦ subst (RollFits m (except after next) t) (sym (roll-after_other t apart))
             (roll-fits_still m (except away next) (except after next) t (roll_of m r.rolls t) (others t apart) (done.hand.fits.each t))
       ]
@@ -226,11 +226,11 @@ put-out {m} {r} {away} {proposer} {s} {at} {out} r' done same_ranks = record {
     refused = subst (λ (roll : RollView). Refuses roll.keys roll.seats (key_of m out.student s)) (sym (roll-after done)) (record {
       full = omega (
         arith,
-        length_permutation (key_of m proposer s ∷ old.keys) (out ∷ (roll_at r'.rolls at).keys) done.offered.together,
-        done.offered.full refl,
-        done.offered.seats,
+        length_permutation (key_of m proposer s ∷ old.keys) (out ∷ (roll_at r'.rolls at).keys) done.offered.own.together,
+        done.offered.own.full refl,
+        done.offered.own.seats,
       );
-      behind = subst (λ k. All (λ held. is_before held k ≡ true) (roll_at r'.rolls at).keys) own done.offered.last;
+      behind = subst (λ k. All (λ held. is_before held k ≡ true) (roll_at r'.rolls at).keys) own done.offered.own.last;
     });
   };
 }
@@ -244,7 +244,7 @@ put-out {m} {r} {away} {proposer} {s} {at} {out} r' done same_ranks = record {
     from : (key_of m proposer s ≡ out) ⊎ Contains old.keys out
     from = contains-cons (key_of m proposer s) old.keys out
         (Contains-permutation (out ∷ (roll_at r'.rolls at).keys) (key_of m proposer s ∷ old.keys) out
-        (IsPermutation-sym (key_of m proposer s ∷ old.keys) (out ∷ (roll_at r'.rolls at).keys) done.offered.together) (contains-head out (roll_at r'.rolls at).keys))
+        (IsPermutation-sym (key_of m proposer s ∷ old.keys) (out ∷ (roll_at r'.rolls at).keys) done.offered.own.together) (contains-head out (roll_at r'.rolls at).keys))
 
     -- who was on the roll stood there, and was not away
     on-old : Contains old.keys out → (away out.student ≡ false) × (next out.student ≡ Some s)
@@ -306,10 +306,10 @@ module _ {m : Market} {r : RoundView} {away : ℕ → Bool} {proposer s at : ℕ
       let differ = differ-without away proposer done.hand.gone in
       fits-rolls m r r' away after done.hand.fits same_ranks done.offered.same_length
       (rolls-offered done after (λ t apart j. has-alike differ next t (has-not next s t proposer done.stands apart) j ∙ goes.others t apart j)
-      (those-left out (roll_at r'.rolls at).keys (All-permutation (λ k. k ≡ key_of m k.student s) (key ∷ (roll_at r.rolls at).keys) (option_to_list out ++ (roll_at r'.rolls at).keys) done.offered.together (keyed-offered done)))
+      (those-left out (roll_at r'.rolls at).keys (All-permutation (λ k. k ≡ key_of m k.student s) (key ∷ (roll_at r.rolls at).keys) (option_to_list out ++ (roll_at r'.rolls at).keys) done.offered.own.together (keyed-offered done)))
       (λ p. omega (
         arith,
-        counts-offered p key (option_to_list out) (roll_at r.rolls at).keys (roll_at r'.rolls at).keys done.offered.together,
+        counts-offered p key (option_to_list out) (roll_at r.rolls at).keys (roll_at r'.rolls at).keys done.offered.own.together,
         ap {B = ℕ} (λ j. cond (p j) 1 0) (key-student m proposer s),
         split-except differ m done.hand.fits.well_formed p next s (next-among m r.ranks proposer s done.stands) done.stands,
         goes.counts p,

@@ -1,10 +1,7 @@
 -- One student who comes back to where they stood.
-use Rattle.std.proofs.Common.{◌≡◌, refl, ap, subst, sym, ◌∙◌, ℕ, ◌+◌, ◌<◌, nat_eq, length, Some, None, Option, IfSome, position, slice_get, is_some, arith}
-use Rattle.std.specs.Option.{option_map}
-use Rattle.sc_papers.specs.Key.{key_of}
+use Rattle.std.proofs.Common.{◌≡◌, refl, ap, subst, sym, ◌∙◌, ℕ, ◌+◌, ◌<◌, nat_eq, length, Some, None, Option, position, slice_get, is_some, arith}
 use Rattle.sc_papers.specs.Market.{Market, choices_of, schools_of, seats_of, student_at}
 use Rattle.sc_papers.specs.Matching.{Matching, held}
-use Rattle.sc_papers.specs.declared.proposal.Proposal.{Proposal}
 use Rattle.sc_papers.proofs.Hands.{student-there}
 use Rattle.sc_engine.specs.RoundView.{RoundView, rank_of, next_of, Fits, FitsBut, only, roll_at, without, RollFits, StandsToo}
 use Rattle.sc_engine.proofs.Tables.{roll-at, next-by}

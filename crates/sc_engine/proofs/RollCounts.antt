@@ -1,7 +1,7 @@
 -- A roll that fits, by how many of its keys pass each test.
-use Rattle.std.proofs.Common.{◌≡◌, inl, inr, refl, ap, sym, subst, ◌∙◌, ℕ, ◌+◌, ◌<◌, ◌≤◌, ◌==◌, Bool, true, false, cond, ◌&&◌, List, [], ◌∷◌, length, map, filter, All, Contains, count_by, remove, arith}
+use Rattle.std.proofs.Common.{◌≡◌, refl, ap, sym, subst, ◌∙◌, ℕ, ◌+◌, ◌<◌, ◌≤◌, ◌==◌, Bool, true, false, cond, ◌&&◌, List, [], ◌∷◌, length, map, filter, All, Contains, count_by, remove, arith}
 use Rattle.std.specs.List.Sorted.{IsPermutation}
-use Rattle.std.proofs.lemmas.Bool.{cases_Bool, eqb-true, eq-eqb, and_right, cond-true, cond-false}
+use Rattle.std.proofs.lemmas.Bool.{eqb-true, eq-eqb}
 use Rattle.std.proofs.lemmas.List.Elements.{All-head, All-map, All-tail}
 use Rattle.std.proofs.lemmas.List.Sorted.{All-permutation, IsPermutation-cons, IsPermutation-map, IsPermutation-refl, IsPermutation-remove, IsPermutation-sym, IsPermutation-trans, sum_by-IsPermutation}
 use Rattle.std.proofs.lemmas.List.Sums.{sum_by-cons}
@@ -9,7 +9,7 @@ use Rattle.sc_papers.specs.Market.{Market, seats_of, students_of}
 use Rattle.sc_papers.specs.Key.{key_of}
 use Rattle.sc_papers.specs.Matching.{Matching, has, how_many}
 use Rattle.sc_papers.specs.declared.key.Key.{Key}
-use Rattle.sc_papers.proofs.Counting.{contains-head, count-cons_fails, count-some, some-counted}
+use Rattle.sc_papers.proofs.Counting.{contains-head, count-some, some-counted}
 use Rattle.sc_papers.proofs.Restriction.{count-filter}
 use Rattle.sc_papers.proofs.Sums.{count-all}
 use Rattle.sc_seats.specs.Roll.{RollView}

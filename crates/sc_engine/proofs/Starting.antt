@@ -1,5 +1,5 @@
 -- A round before anybody has entered.
-use Rattle.std.proofs.Common.{◌≡◌, inl, inr, refl, ap, sym, subst, ◌∙◌, ℕ, ◌≤◌, nat_eq, false, ◌&&◌, List, [], length, get_or, map, Option, Some, None, is_some, position, arith}
+use Rattle.std.proofs.Common.{◌≡◌, inl, inr, refl, ap, sym, subst, ◌∙◌, ℕ, ◌≤◌, nat_eq, false, ◌&&◌, List, [], length, get_or, Option, Some, None, is_some, position, arith}
 use Rattle.std.specs.Option.{option_map_or}
 use Rattle.std.proofs.lemmas.Bool.{cases_Bool, and_right, false≢true, true≢false}
 use Rattle.std.proofs.lemmas.Option.{slice_get-get_or}
@@ -7,7 +7,6 @@ use Rattle.sc_papers.specs.Market.{Market, students_of, schools_of, seats_of, sc
 use Rattle.sc_papers.specs.Matching.{has}
 use Rattle.sc_papers.specs.Log.{next_choice, matching_of, IsSettled}
 use Rattle.sc_papers.specs.WellFormed.{WellFormed, WithinLimits}
-use Rattle.sc_papers.specs.declared.rejection.Rejection.{Rejection}
 use Rattle.sc_papers.specs.declared.records.School.{School}
 use Rattle.sc_papers.proofs.Restriction.{restricted-restricts, next-dropped}
 use Rattle.sc_papers.proofs.Students.{how_many-none}

@@ -32,16 +32,19 @@ use Rattle.sc_engine.proofs.Proposals.{Proposed, has-except, except-alike, stand
 abbrev pub entry_of : ℕ → ℕ → Rejection
 entry_of i s = record { student = i; school = s }
 
--- a rejection as the code makes it: the student moves on by one rank
-pub record Rejected (m : Market) (r r' : RoundView) (i s at rank : ℕ) : Type 0 where
+-- a refusal as the code notes it: the student moves on by one rank
+pub record Refused (m : Market) (r r' : RoundView) (i s at rank : ℕ) : Type 0 where
+  pub put : IsPutOut m r (entry_of i s)
   pub student : position (nat_eq i) (students_of m) ≡ Some at
   pub low : at < length r.ranks
   pub stood : rank_of m r.ranks i ≡ Some rank
   pub choice : slice_get (choices_of m i) rank ≡ Some s
   pub ranks : r'.ranks ≡ set r.ranks at (Some (rank + 1))
+  pub rolls : r'.rolls ≡ r.rolls
   pub log : r'.log ≡ r.log ++ entry_of i s ∷ []
+  pub proposals : r'.proposals ≡ r.proposals + 1
 
-module _ {m : Market} {r r' : RoundView} {i s at rank : ℕ} (moved : Rejected m r r' i s at rank) where
+module _ {m : Market} {r r' : RoundView} {i s at rank : ℕ} (moved : Refused m r r' i s at rank) where
   pub rank-moved : rank_of m r'.ranks i ≡ Some (rank + 1)
   rank-moved = ap (λ ps. rank_of m ps i) moved.ranks ∙ rank-written m r.ranks i at (Some (rank + 1)) moved.student moved.low
 
@@ -56,9 +59,6 @@ module _ {m : Market} {r r' : RoundView} {i s at rank : ℕ} (moved : Rejected m
     | inl same ↦ ap (has_entered m r'.ranks) same ∙ ap is_some rank-moved ∙ sym (ap is_some moved.stood) ∙ ap (has_entered m r.ranks) (sym same)
     | inr apart ↦ ap is_some (rank-stays j apart)
   ]
-
-  pub next-stood : next_of m r.ranks i ≡ Some s
-  next-stood = next-by m r.ranks i rank moved.stood ∙ moved.choice
 
 before-ahead : (m : Market) (s i j : ℕ) → is_before (key_of m i s) (key_of m j s) ≡ true → is_ahead m s i j ≡ true
 unfolding is_ahead
@@ -108,31 +108,24 @@ refusal-valid m earlier r away i s hand put midway = record {
         and_from (entered j) (has (matching_of n log) s j && is_ahead n s j i) here
         (and_from (has (matching_of n log) s j) (is_ahead n s j i) (has-some (matching_of n log) s j (midway.next j ∙ stands)) ahead)
 
--- a refusal as the code notes it
-pub record Refused (m : Market) (r r' : RoundView) (i s at rank : ℕ) : Type 0 where
-  pub put : IsPutOut m r (entry_of i s)
-  pub moved : Rejected m r r' i s at rank
-  pub rolls : r'.rolls ≡ r.rolls
-  pub proposals : r'.proposals ≡ r.proposals + 1
-
 module _ {m : Market} {r r' : RoundView} {i s at rank : ℕ} (refused : Refused m r r' i s at rank) (away : ℕ → Bool) (hand : IsAway m r away i) where
   counted-refused : CountsProposals m r away r' away
   counted-refused =
       omega (
         arith,
         refused.proposals,
-        standing-others m r.ranks r'.ranks away i hand.gone (next-stays refused.moved),
-        ap (λ (l : List Rejection). length l) refused.moved.log ∙ length_push r.log (entry_of i s),
+        standing-others m r.ranks r'.ranks away i hand.gone (next-stays refused),
+        ap (λ (l : List Rejection). length l) refused.log ∙ length_push r.log (entry_of i s),
       )
 
   fits-refused : FitsBut m r' away
   fits-refused =
       let next : Matching = next_of m r.ranks in
       let next' : Matching = next_of m r'.ranks in
-      fits-again r' (except away next') hand.fits (omega (arith, ap (λ (l : List (Option ℕ)). length l) refused.moved.ranks, length-set r.ranks at (Some (rank + 1)), hand.fits.ranks)) (ap length refused.rolls)
+      fits-again r' (except away next') hand.fits (omega (arith, ap (λ (l : List (Option ℕ)). length l) refused.ranks, length-set r.ranks at (Some (rank + 1)), hand.fits.ranks)) (ap length refused.rolls)
       (λ t. subst (λ rolls. RollFits m (except away next') t (roll_of m rolls t)) (sym refused.rolls)
       (roll-fits_still m (except away next) (except away next') t (roll_of m r.rolls t)
-      (λ j. sym (has-agree (except away next') (except away next) t j (except-alike away next' next i hand.gone (next-stays refused.moved) j))) (hand.fits.each t)))
+      (λ j. sym (has-agree (except away next') (except away next) t j (except-alike away next' next i hand.gone (next-stays refused) j))) (hand.fits.each t)))
       (omega (arith, counted-refused, hand.fits.proposals))
 
   midway-refused : (earlier : List Rejection) → Midway m earlier r → Midway m earlier r'
@@ -141,25 +134,25 @@ module _ {m : Market} {r r' : RoundView} {i s at rank : ℕ} (refused : Refused 
       let log : List Rejection = earlier ++ r.log in
       let e : Rejection = entry_of i s in
       let valid : IsValidEntry n log e = refusal-valid m earlier r away i s hand refused.put midway in
-      let same_papers : entered_papers m r'.ranks ≡ n = λ t. restricted m (λ j. entered-stays refused.moved j t) in
-      let same_log : earlier ++ r'.log ≡ log ++ e ∷ [] = ap (λ l. earlier ++ l) refused.moved.log ∙ sym (append_assoc earlier r.log (e ∷ [])) in
-      let chosen : choices_of n i ≡ choices_of m i = choices-restricted m (has_entered m r.ranks) i ∙ ap (λ b. cond b (choices_of m i) []) (ap is_some refused.moved.stood) in
+      let same_papers : entered_papers m r'.ranks ≡ n = λ t. restricted m (λ j. entered-stays refused j t) in
+      let same_log : earlier ++ r'.log ≡ log ++ e ∷ [] = ap (λ l. earlier ++ l) refused.log ∙ sym (append_assoc earlier r.log (e ∷ [])) in
+      let chosen : choices_of n i ≡ choices_of m i = choices-restricted m (has_entered m r.ranks) i ∙ ap (λ b. cond b (choices_of m i) []) (ap is_some refused.stood) in
       let moves : next_choice n (log ++ e ∷ []) i ≡ next_of m r'.ranks i =
-      next-moves n (well-restricted m (has_entered m r.ranks) hand.fits.well_formed) log e rank midway.valid valid (ap (λ xs. slice_get xs rank) chosen ∙ refused.moved.choice)
-      ∙ ap (λ xs. slice_get xs (rank + 1)) chosen ∙ sym (next-by m r'.ranks i (rank + 1) (rank-moved refused.moved)) in
+      next-moves n (well-restricted m (has_entered m r.ranks) hand.fits.well_formed) log e rank midway.valid valid (ap (λ xs. slice_get xs rank) chosen ∙ refused.choice)
+      ∙ ap (λ xs. slice_get xs (rank + 1)) chosen ∙ sym (next-by m r'.ranks i (rank + 1) (rank-moved refused)) in
       record {
         valid = subst (λ p. IsValidLog p (earlier ++ r'.log)) (sym same_papers) (subst (IsValidLog n) (sym same_log) (valid-push n [] log e midway.valid valid));
         next = λ j. ap (λ p. next_choice p (earlier ++ r'.log) j) same_papers ∙ ap (λ l. next_choice n l j) same_log ∙ elim (cases_eq j i) [
           | inl own ↦ ap (next_choice n (log ++ e ∷ [])) own ∙ moves ∙ ap (next_of m r'.ranks) (sym own)
-          | inr apart ↦ next-same n log e j (λ same. apart (sym same)) ∙ midway.next j ∙ sym (next-stays refused.moved j apart)
+          | inr apart ↦ next-same n log e j (λ same. apart (sym same)) ∙ midway.next j ∙ sym (next-stays refused j apart)
         ];
       }
 
 -- the student who is refused has one choice less left
-pub left-refused : {m : Market} {r r' : RoundView} {i s at rank : ℕ} → WellFormed m → Rejected m r r' i s at rank → choices_left m r.ranks ≡ 1 + choices_left m r'.ranks
+pub left-refused : {m : Market} {r r' : RoundView} {i s at rank : ℕ} → WellFormed m → Refused m r r' i s at rank → choices_left m r.ranks ≡ 1 + choices_left m r'.ranks
 unfolding choices_left
 left-refused {m} {r} {r'} {i} {s} {at} {rank} well moved =
-    sum-bump (λ j. left_at (choices_of m j) (rank_of m r'.ranks j)) (λ j. left_at (choices_of m j) (rank_of m r.ranks j)) (students_of m) i well.students_differ (next-among m r.ranks i s (next-stood moved))
+    sum-bump (λ j. left_at (choices_of m j) (rank_of m r'.ranks j)) (λ j. left_at (choices_of m j) (rank_of m r.ranks j)) (students_of m) i well.students_differ (next-among m r.ranks i s moved.put.stands)
     (ap (left_at (choices_of m i)) moved.stood ∙ one_less ∙ ap (λ o. 1 + left_at (choices_of m i) o) (sym (rank-moved moved)))
     (λ j apart. ap (left_at (choices_of m j)) (sym (rank-stays moved j (λ same. apart (sym same)))))
   where
@@ -170,14 +163,14 @@ pub passes-refused : {m : Market} {r r' : RoundView} {i s at rank : ℕ} → Ref
 passes-refused {m} {r} {r'} {i} {s} refused away hand = record {
   moves = record {
     fits = fits-refused refused away hand;
-    entered = entered-stays refused.moved;
+    entered = entered-stays refused;
     midway = midway-refused refused away hand;
-    extends = (entry_of i s ∷ [], refused.moved.log);
+    extends = (entry_of i s ∷ [], refused.log);
     counted = counted-refused refused away hand;
-    left = omega (arith, left-refused hand.fits.well_formed refused.moved);
+    left = omega (arith, left-refused hand.fits.well_formed refused);
   };
   others = λ e apart put. record {
-    stands = next-stays refused.moved e.student apart ∙ put.stands;
+    stands = next-stays refused e.student apart ∙ put.stands;
     refused = subst (λ (rolls : List RollView). Refuses (roll_of m rolls e.school).keys (roll_of m rolls e.school).seats (key_of m e.student e.school)) (sym refused.rolls) put.refused;
   };
 }

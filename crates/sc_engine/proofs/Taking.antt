@@ -1,28 +1,25 @@
 -- Students who come to a round from another one, in which they alone stand.
 use Rattle.std.proofs.Common.{◌≡◌, inl, inr, refl, ap, sym, subst, ◌∙◌, ℕ, ◌+◌, ◌<◌, nat_eq, Bool, true, false, List, [], ◌∷◌, length, take, get_or, map, set, Option, None, Some, Contains, position, arith, length-set}
 use Rattle.std.specs.Option.{option_map_or}
-use Rattle.std.proofs.lemmas.Bool.{cases_Bool, cases_eq, false≢true}
+use Rattle.std.proofs.lemmas.Bool.{cases_Bool, cases_eq}
 use Rattle.std.proofs.lemmas.List.Elements.{Contains-push}
 use Rattle.std.proofs.lemmas.Option.{none-some}
 use Rattle.sc_papers.specs.Key.{key_of}
-use Rattle.sc_papers.specs.Market.{Market, choices_of, schools_of, students_of}
-use Rattle.sc_papers.specs.Matching.{has}
+use Rattle.sc_papers.specs.Market.{Market, choices_of, schools_of}
 use Rattle.sc_papers.specs.Restriction.{AreApart}
 use Rattle.sc_papers.specs.WellFormed.{WellFormed}
 use Rattle.sc_papers.specs.declared.key.Key.{Key}
 use Rattle.sc_papers.specs.declared.proposal.Proposal.{Proposal}
-use Rattle.sc_papers.proofs.Positions.{position-one, position-there}
-use Rattle.sc_papers.proofs.Rejections.{has-agree, has-true}
+use Rattle.sc_papers.proofs.Positions.{position-one}
 use Rattle.sc_seats.specs.Roll.{RollView}
 use Rattle.sc_engine.specs.Leaving.{AreTaken, HasRolls, SomeStands, StandAt, StandsThere, TakesOver}
 use Rattle.sc_engine.specs.Noted.{AreWritten}
 use Rattle.sc_engine.specs.RoundView.{Fits, RollFits, RoundView, next_of, no_roll, rank_of, roll_at, roll_of}
 use Rattle.sc_engine.proofs.Leaving.{Tells, earlier, earlier-or_latest, empty-roll, latest, next-stays, only-one, rank-stays, rank-taken, some-stands, stander-lists, told-only, told-there}
 use Rattle.sc_engine.proofs.Offers.{roll_at-mapped}
-use Rattle.sc_engine.proofs.Proposals.{has-none}
 use Rattle.sc_engine.proofs.Renewing.{roll_set_other, roll_set_same}
 use Rattle.sc_engine.proofs.Rolls.{fits-again, on-roll, roll-fits_where, roll-holds}
-use Rattle.sc_engine.proofs.Tables.{length-mapped, next-among, next-kept, next-none, position-of, rank-alike, roll-at, stands-at}
+use Rattle.sc_engine.proofs.Tables.{length-mapped, next-among, next-kept, next-none, roll-at}
 
 -- one more position
 pub taken_more : (m : Market) (ranks : List (Option ℕ)) (positions : List ℕ) (n : ℕ) (old other now between new left : List RollView) → n < length positions

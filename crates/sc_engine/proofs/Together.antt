@@ -1,11 +1,11 @@
 -- Everybody proposes, several one after the other.
-use Rattle.std.proofs.Common.{◌≡◌, inl, inr, refl, ap, sym, subst, ◌∙◌, ℕ, ◌<◌, ◌==◌, nat_eq, Bool, false, not, ◌&&◌, ◌||◌, List, [], ◌∷◌, ◌++◌, length, map, drop, get_or, Option, None, Some, All, Contains, position, append_assoc, append-nil, ◌+◌, arith}
+use Rattle.std.proofs.Common.{◌≡◌, inl, inr, refl, ap, sym, subst, ◌∙◌, ℕ, ◌==◌, nat_eq, Bool, false, not, ◌&&◌, ◌||◌, List, [], ◌∷◌, ◌++◌, map, Option, None, Some, All, Contains, position, append_assoc, append-nil, arith}
 use Rattle.std.specs.List.{AllByRecursion, IsDistinct}
 use Rattle.std.specs.List.Sorted.{IsPermutation}
 use Rattle.std.proofs.lemmas.Bool.{cases_eq, eq-eqb, ne_eqb, false≢true, and_right}
 use Rattle.std.proofs.lemmas.Cmp.{nat_eq_equiv}
 use Rattle.std.specs.Option.{option_to_list}
-use Rattle.std.proofs.lemmas.List.{drop_more, map-append}
+use Rattle.std.proofs.lemmas.List.{map-append}
 use Rattle.std.proofs.lemmas.List.Elements.{All-nil, All-append, All-contains, All-contains_itself, All-cons, All-tail, All-weaker, Contains-append_right}
 use Rattle.std.proofs.lemmas.List.Sorted.{IsPermutation-middle, list_any-IsPermutation}
 use Rattle.std.proofs.lemmas.Map.Keys.{IsDistinct-head, IsDistinct-tail, IsDistinct-push, IsDistinct-IsPermutation}
@@ -16,10 +16,8 @@ use Rattle.sc_papers.proofs.Counting.{contains-cons, contains-head, contains-tai
 use Rattle.sc_papers.proofs.Hands.{student-there}
 use Rattle.sc_papers.proofs.Positions.{any-among}
 use Rattle.sc_papers.proofs.Rejections.{any-push}
-use Rattle.sc_engine.specs.RoundView.{RoundView, FitsBut, HaveEntered, IsAway, IsPutOut, Moves, OthersStay, Passes, Proposes, without, without_log}
-use Rattle.sc_engine.specs.Applicants.{numbers_of}
+use Rattle.sc_engine.specs.RoundView.{RoundView, HaveEntered, IsAway, IsPutOut, Moves, OthersStay, Passes, Proposes, without, without_log}
 use Rattle.sc_engine.specs.Together.{all_of, among, Waits}
-use Rattle.sc_engine.specs.declared.applicants.Applicant.{Applicant}
 use Rattle.sc_engine.proofs.Forgetting.{fits_but-without_log, midway-without_log}
 use Rattle.sc_engine.proofs.Proposals.{and-keeps}
 use Rattle.sc_engine.proofs.Steps.{continues-midway}
@@ -42,10 +40,6 @@ without-first x xs differ = λ t j. others j t
       | inl is ↦ and_right (among (x ∷ xs) j) (not (j == x)) (ap not (eq-eqb j x is)) ∙ sym (ap (among xs) is ∙ first-absent x xs differ)
       | inr apart ↦ and-keeps (among (x ∷ xs) j) (not (j == x)) (ap not (ne_eqb j x apart)) ∙ ap (λ b. b || among xs j) (ne_eqb j x apart)
     ]
-
--- in another order
-among-permuted : (xs ys : List ℕ) → IsPermutation xs ys → among xs ≡ among ys
-among-permuted xs ys moved = λ t i. list_any-IsPermutation (nat_eq i) xs ys moved t
 
 contains-student : (outs : List Rejection) (e : Rejection) → Contains outs e → Contains (map (λ (out : Rejection). out.student) outs) e.student
 contains-student [] e (k, low, at) = absurd (omega (arith, low))
@@ -99,7 +93,7 @@ pub waits_noted : (m : Market) (r r' : RoundView) (hands : List ℕ) (e : Reject
 waits_noted m r r' hands e outs waits passes =
     let differ = IsDistinct-IsPermutation nat_eq nat_eq_equiv.symm (all_of hands (e ∷ outs)) (all_of (e.student ∷ hands) outs) (put-first hands e outs) waits.differ in
     waits_moved r' (e.student ∷ hands) outs waits
-    (subst (Moves m r (among (all_of hands (e ∷ outs))) r') (among-permuted (all_of hands (e ∷ outs)) (all_of (e.student ∷ hands) outs) (put-first hands e outs)) passes.moves)
+    (subst (Moves m r (among (all_of hands (e ∷ outs))) r') (λ t j. list_any-IsPermutation (nat_eq j) (all_of hands (e ∷ outs)) (all_of (e.student ∷ hands) outs) (put-first hands e outs) t) passes.moves)
     differ (stay-put e.student hands outs passes.others (first-absent e.student (all_of hands outs) differ) (All-tail (IsPutOut m r) e outs waits.put_out))
 
 -- the first proposes, and perhaps another is put out, who waits
@@ -139,18 +133,9 @@ waits_done m r waits = record {
   continues = continues-midway m r waits.fits waits.earlier waits.midway;
 }
 
--- those who are left of some applicants
-pub applicants-left : (m : Market) (applicants : List Applicant) (k : ℕ) (d : Applicant) → k < length applicants → numbers_of m (drop k applicants) ≡ student_at m (get_or applicants k d).position ∷ numbers_of m (drop (k + 1) applicants)
-applicants-left m applicants k d low = ap (numbers_of m) (drop_more applicants k d low)
-
 -- the rejection of the first of them is noted, who is to propose
 pub waits_noted_first : (m : Market) (r r' : RoundView) (hands : List ℕ) (e : Rejection) (outs : List Rejection) (at : ℕ) → position (nat_eq e.student) (students_of m) ≡ Some at
     → ((away : ℕ → Bool) → IsAway m r away e.student → Passes m r away r' e.student) → Waits m r hands (e ∷ outs) → Waits m r' (student_at m at ∷ hands) outs
 waits_noted_first m r r' hands e outs at found passes waits =
     subst (λ (i : ℕ). Waits m r' (i ∷ hands) outs) (sym (student-there m e.student at found))
     (waits_noted m r r' hands e outs waits (passes (among (all_of hands (e ∷ outs))) (put_out_away m r hands e outs waits)))
-
--- a list of no length has no items
-pub no-items : {X : Type 0} (xs : List X) → length xs < 1 → xs ≡ []
-no-items [] few = refl
-no-items (x ∷ xs) few = absurd (omega (arith, few))

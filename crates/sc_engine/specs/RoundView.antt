@@ -135,13 +135,17 @@ pub record IsPutOut (m : Market) (r : RoundView) (entry : Rejection) : Type 0 wh
 abbrev pub OthersStay : Market → RoundView → RoundView → ℕ → Type 0
 OthersStay m old new i = (entry : Rejection) → (entry.student ≡ i → ⊥) → IsPutOut m old entry → IsPutOut m new entry
 
--- what an offer to the roll at a position does: the others stay
+-- what an offer to a roll does
+pub record Offers (old new : RollView) (key : Key) (out : Option Key) : Type 0 where
+  pub together : IsPermutation (key ∷ old.keys) (option_to_list out ++ new.keys)
+  pub last : IfSome out (λ worst. All (λ held. is_before held worst ≡ true) new.keys)
+  pub full : IsSome out → length old.keys ≡ old.seats
+  pub seats : new.seats ≡ old.seats
+  pub within : length new.keys ≤ new.seats
+
+-- and one to the roll at a position: the others stay
 pub record OffersAt (old new : List RollView) (at : ℕ) (key : Key) (out : Option Key) : Type 0 where
-  pub together : IsPermutation (key ∷ (roll_at old at).keys) (option_to_list out ++ (roll_at new at).keys)
-  pub last : IfSome out (λ worst. All (λ held. is_before held worst ≡ true) (roll_at new at).keys)
-  pub full : IsSome out → length (roll_at old at).keys ≡ (roll_at old at).seats
-  pub seats : (roll_at new at).seats ≡ (roll_at old at).seats
-  pub within : length (roll_at new at).keys ≤ (roll_at new at).seats
+  pub own : Offers (roll_at old at) (roll_at new at) key out
   pub others : (other : ℕ) → (other ≡ at → ⊥) → roll_at new other ≡ roll_at old other
   pub same_length : length new ≡ length old
 

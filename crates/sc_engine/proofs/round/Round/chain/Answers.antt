@@ -1,16 +1,12 @@
-use Rattle.std.proofs.Common.{ℕ, Option, refl, subst, sym, arith}
+use Rattle.std.proofs.Common.{ℕ, Option, subst, sym, arith}
 use Rattle.std.specs.Option.{option_map}
-use Rattle.std.proofs.lemmas.Bool.{eq-eqb}
-use Rattle.sc_papers.specs.Market.{student_at, students_of}
-use Rattle.sc_papers.specs.declared.records.Student.{Student}
-use Rattle.sc_papers.proofs.Hands.{student-there}
-use Rattle.sc_papers.proofs.Positions.{position-at}
+use Rattle.sc_papers.specs.Market.{student_at}
+use Rattle.sc_papers.proofs.Hands.{position-low, student-there}
 use Rattle.sc_engine.specs.Round.{view_of}
 use Rattle.sc_engine.specs.RoundView.{only, Moves, Proposes}
 use Rattle.sc_engine.specs.declared.round.chains.PutOut.{PutOut}
 use Rattle.sc_engine.proofs.Proposals.{back-only, only-away, only-other}
 use Rattle.sc_engine.proofs.Steps.{moves-after}
-use Rattle.sc_engine.proofs.Tables.{length-mapped}
 use Rattle.sc_engine.proofs.round.Round.chain.Goals as goal
 
 pub loop-out-preserved : goal.loop-out-preserved
@@ -24,7 +20,7 @@ loop-out-preserved g c =
     let proposed = subst (λ (o : Option PutOut). Proposes papers old (only proposer) mid proposer (option_map (λ one. one.entry) o)) c.in-Some.is (c.in_ok-out.ensures (only proposer) (only-away c.loop-out.invariant.1.fits)) in
     let goes : Moves papers old (only proposer) mid (only out) = subst (Moves papers old (only proposer) mid) (only-other proposer out) proposed.moves in
     let noted = c.in_ok-proposer.ensures.noted (only out) (only-away goes.fits) in (
-      omega (arith, (position-at (students_of papers) out c.in_ok-proposer.proposer c.in_ok-proposer.ensures.found).0, length-mapped (λ (e : ℕ × Student). e.0) papers.students),
+      position-low papers out c.in_ok-proposer.proposer c.in_ok-proposer.ensures.found,
       subst (λ i. Moves papers (view_of g.R.Roll.keys g.R.Roll.seats c.args.self.now) (only (student_at papers c.args.first)) new (only i)) (sym (student-there papers out c.in_ok-proposer.proposer c.in_ok-proposer.ensures.found))
           (moves-after c.loop-out.invariant.1 (moves-after goes noted.moves)),
     )

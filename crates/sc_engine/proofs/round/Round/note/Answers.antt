@@ -32,4 +32,4 @@ pub returns-clause-noted : goal.returns-clause-noted
 returns-clause-noted g c away hand = passes-refused (noted g c).1 away hand
 
 pub returns-clause-left : goal.returns-clause-left
-returns-clause-left g c = omega (arith, left-refused c.requires.away.1.fits.well_formed (noted g c).1.moved)
+returns-clause-left g c = omega (arith, left-refused c.requires.away.1.fits.well_formed (noted g c).1)

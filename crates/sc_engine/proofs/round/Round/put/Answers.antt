@@ -1,4 +1,4 @@
-use Rattle.std.proofs.Common.{◌≡◌, refl, ap, sym, subst, ◌∙◌, ℕ, ◌<◌, List, Option, Some, None, Contains, IfSome, slice_get, arith}
+use Rattle.std.proofs.Common.{refl, ap, sym, subst, ◌∙◌, ℕ, ◌<◌, List, Option, Some, None, Contains, IfSome, slice_get, arith}
 use Rattle.std.specs.Option.{option_map}
 use Rattle.sc_papers.specs.Market.{choices_of, seats_of}
 use Rattle.sc_papers.specs.Matching.{held}
@@ -65,7 +65,7 @@ unreachable-requires g c =
       arith,
       roll-open papers old c.in-Some.proposal.school c.in-Some.proposal.position c.requires.fits so.position
       (subst (λ (o : Option ℕ). IfSome o (λ s. held papers (next_of papers old.ranks) s < seats_of papers s)) (sym so.school) c.requires.room),
-      c.in_ok-out.ensures.full (sym c.is_some.ensures ∙ c.if-is_some.true),
+      c.in_ok-out.ensures.own.full (sym c.is_some.ensures ∙ c.if-is_some.true),
     )
 
 pub returns-clause-stands : goal.returns-clause-stands
