@@ -1,5 +1,5 @@
 -- A round that forgets its log goes on from where its students stand.
-use Rattle.std.proofs.Common.{◌≡◌, refl, ap, sym, subst, ◌∙◌, ℕ, Bool, List, [], ◌++◌, arith}
+use Rattle.std.proofs.Common.{refl, ap, sym, subst, ◌∙◌, ℕ, Bool, List, ◌++◌, arith}
 use Rattle.std.proofs.lemmas.List.{append-nil}
 use Rattle.sc_papers.specs.Log.{next_choice, IsSettled, IsValidLog}
 use Rattle.sc_papers.specs.Market.{Market}
@@ -14,17 +14,13 @@ pub fits-without_log : (m : Market) (r : RoundView) → Fits m r → Fits m (wit
 fits-without_log m r fits = fits_but-without_log m r nobody fits
 
 pub midway-without_log : (m : Market) (r : RoundView) (earlier : List Rejection) → Midway m earlier r → Midway m (earlier ++ r.log) (without_log r)
-midway-without_log m r earlier midway =
-    let whole : (earlier ++ r.log) ++ [] ≡ earlier ++ r.log = append-nil (earlier ++ r.log) in
-    record {
-      valid = subst (λ (log : List Rejection). IsValidLog (entered_papers m r.ranks) log) (sym whole) midway.valid;
-      next = λ i. ap (λ (log : List Rejection). next_choice (entered_papers m r.ranks) log i) whole ∙ midway.next i;
-    }
+midway-without_log m r earlier midway = record {
+  valid = subst (λ (log : List Rejection). IsValidLog (entered_papers m r.ranks) log) (sym (append-nil (earlier ++ r.log))) midway.valid;
+  next = λ i. ap (λ (log : List Rejection). next_choice (entered_papers m r.ranks) log i) (append-nil (earlier ++ r.log)) ∙ midway.next i;
+}
 
 pub continues-without_log : (m : Market) (r : RoundView) (earlier : List Rejection) → Continues m earlier r → Continues m (earlier ++ r.log) (without_log r)
-continues-without_log m r earlier continues =
-    let whole : (earlier ++ r.log) ++ [] ≡ earlier ++ r.log = append-nil (earlier ++ r.log) in
-    record {
-      settled = subst (λ (log : List Rejection). IsSettled (entered_papers m r.ranks) log) (sym whole) continues.settled;
-      next = λ i. ap (λ (log : List Rejection). next_choice (entered_papers m r.ranks) log i) whole ∙ continues.next i;
-    }
+continues-without_log m r earlier continues = record {
+  settled = subst (λ (log : List Rejection). IsSettled (entered_papers m r.ranks) log) (sym (append-nil (earlier ++ r.log))) continues.settled;
+  next = λ i. ap (λ (log : List Rejection). next_choice (entered_papers m r.ranks) log i) (append-nil (earlier ++ r.log)) ∙ continues.next i;
+}

@@ -1,12 +1,10 @@
 -- What well-formed papers say of those who stand at a choice.
-use Rattle.std.proofs.Common.{◌≡◌, sym, ◌∙◌, ℕ, ◌<◌, nat_eq, true, List, Option, Some, slice_get, arith}
-use Rattle.std.proofs.lemmas.Map.Made.{is_some-lookup}
+use Rattle.std.proofs.Common.{◌≡◌, sym, ◌∙◌, ℕ, ◌<◌, true, List, Option, Some, arith}
 use Rattle.std.proofs.lemmas.Option.{slice_get_within}
-use Rattle.sc_papers.specs.Market.{Market, is_school, is_student, schools_of, choices_of}
+use Rattle.sc_papers.specs.Market.{Market, is_student, choices_of}
 use Rattle.sc_papers.specs.WellFormed.{WithinLimits}
 use Rattle.sc_papers.specs.declared.limits.TheConstants.{LONGEST_LIST}
-use Rattle.sc_papers.proofs.Choices.{contains-at}
-use Rattle.sc_papers.proofs.Positions.{any-among, among-student}
+use Rattle.sc_papers.proofs.Positions.{among-student}
 use Rattle.sc_papers.proofs.Students.{choices-short}
 use Rattle.sc_engine.specs.RoundView.{next_of, rank_of}
 use Rattle.sc_engine.proofs.Tables.{next-among, next-by}
@@ -19,7 +17,3 @@ stander-student m ranks i s next = among-student m i (next-among m ranks i s nex
 pub stander-short : (m : Market) (ranks : List (Option ℕ)) (i s rank : ℕ) → WithinLimits m → next_of m ranks i ≡ Some s → rank_of m ranks i ≡ Some rank → rank < LONGEST_LIST
 stander-short m ranks i s rank within next is =
     omega (arith, slice_get_within (choices_of m i) rank s (sym (next-by m ranks i rank is) ∙ next), choices-short m within i)
-
--- a school at a position is a school of the papers
-pub school-at : (m : Market) (at s : ℕ) → slice_get (schools_of m) at ≡ Some s → is_school m s ≡ true
-school-at m at s here = is_some-lookup (nat_eq s) m.schools ∙ any-among (schools_of m) s (contains-at (schools_of m) at s here)

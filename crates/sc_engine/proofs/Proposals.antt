@@ -164,10 +164,6 @@ module _ {m : Market} {r : RoundView} {away : ℕ → Bool} {proposer s at : ℕ
   roll-before_counted : IsCounted m (except away (next_of m r.ranks)) s (roll_at r.rolls at)
   roll-before_counted = counted m (except away (next_of m r.ranks)) s (roll_at r.rolls at) roll-before
 
-  -- the other schools' rolls stay
-  roll-after_other : (t : ℕ) → (t ≡ s → ⊥) → roll_of m rolls t ≡ roll_of m r.rolls t
-  roll-after_other = roll-kept m r.rolls rolls s at done.school done.offered.others
-
   roll-after : roll_of m rolls s ≡ roll_at rolls at
   roll-after = roll-at m rolls s at done.school
 
@@ -185,7 +181,7 @@ module _ {m : Market} {r : RoundView} {away : ℕ → Bool} {proposer s at : ℕ
       elim (cases_eq t s) [
         | inl at_s ↦ subst (λ u. RollFits m (except after next) u (roll_of m rolls u)) (sym at_s) (subst (RollFits m (except after next) s) (sym roll-after)
             (fits-counted m (except after next) s (roll_at rolls at) (record { seats = done.offered.own.seats ∙ roll-before.seats; within = done.offered.own.within; keyed = keyed; exact = exact })))
-        | inr apart ↦ subst (RollFits m (except after next) t) (sym (roll-after_other t apart))
+        | inr apart ↦ subst (RollFits m (except after next) t) (sym (roll-kept m r.rolls rolls s at done.school done.offered.others t apart))
             (roll-fits_still m (except away next) (except after next) t (roll_of m r.rolls t) (others t apart) (done.hand.fits.each t))
       ]
 

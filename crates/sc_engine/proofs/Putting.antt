@@ -14,16 +14,21 @@ pub next-begun : {m : Market} {r r' : RoundView} {i at rank : ℕ} → Begun m r
 next-begun {m} {r} {r'} {i} {at} {rank} begun choice here =
     next-by m r'.ranks i rank (rank-begun begun) ∙ ap (λ j. slice_get (choices_of m j) rank) (sym (student-there m i at begun.student)) ∙ here
 
+-- one more student stands at a choice, where the round fits so
+stands-too : {m : Market} {r r' : RoundView} {i at rank : ℕ} → Begun m r r' i at rank → (r'' : RoundView) (choice : Option ℕ) → slice_get (choices_of m (student_at m at)) rank ≡ choice → r''.ranks ≡ r'.ranks → r''.log ≡ r'.log → r''.proposals ≡ r'.proposals → Fits m r'' → StandsToo m r r'' i choice
+stands-too {m} {r} {r'} {i} begun r'' choice here same_ranks same_log same_proposals fits = record {
+  fits = fits;
+  entered = λ j. ap (λ ranks. is_some (rank_of m ranks j)) same_ranks ∙ entered-begun begun j;
+  own = ap (λ ranks. next_of m ranks i) same_ranks ∙ next-begun begun choice here;
+  others = λ j apart. ap (λ ranks. next_of m ranks j) same_ranks ∙ next-others begun j apart;
+  log = same_log ∙ begun.log;
+  proposals = same_proposals ∙ begun.proposals;
+}
+
 -- a student who has no choice left is on no roll
 pub put-nowhere : {m : Market} {r r' : RoundView} {i at rank : ℕ} → Begun m r r' i at rank → (choice : Option ℕ) → slice_get (choices_of m (student_at m at)) rank ≡ choice → choice ≡ None → StandsToo m r r' i choice
-put-nowhere {m} {r} {r'} {i} begun choice here none = record {
-  fits = subst (FitsBut m r') (back-only i) (fits-ended m r' (only i) i (away-begun begun) (next-begun begun choice here ∙ none));
-  entered = entered-begun begun;
-  own = next-begun begun choice here;
-  others = next-others begun;
-  log = begun.log;
-  proposals = begun.proposals;
-}
+put-nowhere {m} {r} {r'} {i} begun choice here none =
+    stands-too begun r' choice here refl refl refl (subst (FitsBut m r') (back-only i) (fits-ended m r' (only i) i (away-begun begun) (next-begun begun choice here ∙ none)))
 
 -- a school at which fewer stand than it has seats has room on its roll
 pub roll-open : (m : Market) (r : RoundView) (s at : ℕ) → Fits m r → position (nat_eq s) (schools_of m) ≡ Some at → held m (next_of m r.ranks) s < seats_of m s → length (roll_at r.rolls at).keys < (roll_at r.rolls at).seats
@@ -39,14 +44,8 @@ roll-open m r s at fits school room =
 
 -- a student who is put on the roll of their school, where nobody is put out
 pub put-on_roll : {m : Market} {r r' : RoundView} {i at rank : ℕ} → Begun m r r' i at rank → (r'' : RoundView) (choice : Option ℕ) (s school : ℕ) → slice_get (choices_of m (student_at m at)) rank ≡ choice → choice ≡ Some s → Proposed m r' (only i) i s school r''.rolls None → r''.ranks ≡ r'.ranks → r''.log ≡ r'.log → r''.proposals ≡ r'.proposals → StandsToo m r r'' i choice
-put-on_roll {m} {r} {r'} {i} begun r'' choice s school here is done same_ranks same_log same_proposals = record {
-  fits = fits-again r'' (next_of m r''.ranks) counted_fits counted_fits.ranks refl counted_fits.each (omega (arith, counted_fits.proposals, same_proposals));
-  entered = λ j. ap (λ ranks. is_some (rank_of m ranks j)) same_ranks ∙ entered-begun begun j;
-  own = ap (λ ranks. next_of m ranks i) same_ranks ∙ next-begun begun choice here;
-  others = λ j apart. ap (λ ranks. next_of m ranks j) same_ranks ∙ next-others begun j apart;
-  log = same_log ∙ begun.log;
-  proposals = same_proposals ∙ begun.proposals;
-}
+put-on_roll {m} {r} {r'} {i} begun r'' choice s school here is done same_ranks same_log same_proposals =
+    stands-too begun r'' choice here same_ranks same_log same_proposals (fits-again r'' (next_of m r''.ranks) counted_fits counted_fits.ranks refl counted_fits.each (omega (arith, counted_fits.proposals, same_proposals)))
   where
     -- the same with the offer counted as a proposal
     counted : RoundView

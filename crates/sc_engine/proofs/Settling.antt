@@ -54,15 +54,6 @@ first-apart xs k i distinct here =
 pub first-all : (xs : List ℕ) (j : ℕ) → Contains xs j → among_first xs (length xs) j ≡ true
 first-all xs j among = ap (list_any (nat_eq j)) (take-length xs) ∙ any-among xs j among
 
--- one more student of a list has entered
-pub entered-next : (m : Market) (old new : RoundView) (xs : List ℕ) (k i : ℕ) → slice_get xs k ≡ Some i → HaveEntered m old (take k xs) → Enters m old new i → HaveEntered m new (take (k + 1) xs)
-entered-next m old new xs k i here before enters = record {
-  fits = enters.fits;
-  entered = λ j. enters.entered j ∙ ap (λ b. b || j == i) (before.entered j) ∙ sym (first-more xs k i here j);
-  earlier = before.earlier;
-  continues = enters.continues before.earlier before.continues;
-}
-
 -- a log that is settled for students is so after none
 abbrev pub settled-entered : (m : Market) (r : RoundView) (xs : List ℕ) → SettlesThese m r xs → HaveEntered m r xs
 settled-entered m r xs these = record {
@@ -76,7 +67,7 @@ settled-entered m r xs these = record {
 pub settles-more : (m : Market) (old new : RoundView) (k i : ℕ) → slice_get (students_of m) k ≡ Some i → SettlesFirst m old k → Enters m old new i → SettlesFirst m new (k + 1)
 settles-more m old new k i here before enters = record {
   fits = enters.fits;
-  entered = (entered-next m old new (students_of m) k i here (settled-entered m old (take k (students_of m)) before) enters).entered;
+  entered = λ j. enters.entered j ∙ ap (λ b. b || j == i) (before.entered j) ∙ sym (first-more (students_of m) k i here j);
   settled = enters.continues [] before.settled;
   counted = omega (arith, before.counted, enters.counted);
 }

@@ -2,6 +2,7 @@
 use Rattle.std.proofs.Common.{◌≡◌, inl, inr, refl, ap, sym, subst, ◌∙◌, ℕ, ◌≤◌, nat_eq, false, ◌&&◌, List, [], length, get_or, Option, Some, None, is_some, position, arith}
 use Rattle.std.specs.Option.{option_map_or}
 use Rattle.std.proofs.lemmas.Bool.{cases_Bool, and_right, false≢true, true≢false}
+use Rattle.std.proofs.lemmas.Map.Made.{is_some-lookup}
 use Rattle.std.proofs.lemmas.Option.{slice_get-get_or}
 use Rattle.sc_papers.specs.Market.{Market, students_of, schools_of, seats_of, school_of, is_school}
 use Rattle.sc_papers.specs.Matching.{has}
@@ -14,8 +15,7 @@ use Rattle.sc_seats.specs.Roll.{RollView}
 use Rattle.sc_engine.proofs.RollCounts.{fits-counted}
 use Rattle.sc_engine.specs.RoundView.{RoundView, rank_of, next_of, has_entered, roll_of, roll_at, no_roll, RollFits, Fits, nobody, Continues, AreEmpty, entered_papers, StandNowhere}
 use Rattle.sc_engine.proofs.Tables.{next-none, roll-at, length-mapped}
-use Rattle.sc_papers.proofs.Positions.{position-at, school-position}
-use Rattle.sc_engine.proofs.Papers.{school-at}
+use Rattle.sc_papers.proofs.Positions.{any-among, position-among, position-at, school-position}
 use Rattle.sc_engine.proofs.Proposals.{has-none}
 
 -- a round before anybody has entered
@@ -53,9 +53,7 @@ roll-unknown m rolls s unknown = go (position (nat_eq s) (schools_of m)) refl
   where
     go : (o : Option ℕ) → position (nat_eq s) (schools_of m) ≡ o → option_map_or (roll_at rolls) o no_roll ≡ no_roll
     go None is = refl
-    go (Some at) is =
-        let here = position-at (schools_of m) s at is in
-        absurd (false≢true (sym unknown ∙ school-at m at s (slice_get-get_or (schools_of m) at s here.0 ∙ ap Some here.1)))
+    go (Some at) is = absurd (false≢true (sym unknown ∙ is_some-lookup (nat_eq s) m.schools ∙ any-among (schools_of m) s (position-among (schools_of m) s at is)))
 
 -- nobody is on the roll of a school, which has its seats
 roll-empty : (m : Market) (rolls : List RollView) → AreEmpty m rolls (length m.schools) → (s : ℕ) → roll_of m rolls s ≡ record { keys = []; seats = seats_of m s }

@@ -1,5 +1,5 @@
 -- The steps of proposals: what they do to the round, and to any log that they continue.
-use Rattle.std.proofs.Common.{◌≡◌, inl, inr, refl, ap, sym, subst, ◌∙◌, ℕ, ◌+◌, ◌-◌, ◌<◌, nat_eq, Bool, true, cond, not, ◌&&◌, List, [], ◌∷◌, ◌++◌, length, set, Option, Some, None, is_some, position, slice_get, append_assoc, append-nil, arith, length-set}
+use Rattle.std.proofs.Common.{◌≡◌, inl, inr, refl, ap, sym, subst, ◌∙◌, ℕ, ◌+◌, ◌-◌, ◌<◌, nat_eq, Bool, true, cond, not, ◌&&◌, List, [], ◌∷◌, ◌++◌, length, set, Option, Some, None, is_some, position, slice_get, append_assoc, append-nil, arith, length-set, get_or-set_same, get_or-set_other}
 use Rattle.std.specs.Option.{option_map, option_to_list}
 use Rattle.std.proofs.lemmas.Bool.{cases_eq, and_from, and_parts}
 use Rattle.std.proofs.lemmas.Option.{slice_get_within}
@@ -24,7 +24,7 @@ use Rattle.sc_papers.proofs.Validity.{valid-push}
 use Rattle.sc_seats.specs.Roll.{RollView, Refuses}
 use Rattle.sc_engine.specs.RoundView.{RoundView, rank_of, next_of, has_entered, roll_of, RollFits, FitsBut, Fits, IsAway, IsPutOut, Moves, Passes, Proposes, except, without, CountsProposals, entered_papers, Midway, Continues, choices_left, left_at}
 use Rattle.sc_engine.proofs.Offers.{others-offered}
-use Rattle.sc_engine.proofs.Tables.{rank-written, rank-kept, next-by, next-kept, next-among, next-entered}
+use Rattle.sc_engine.proofs.Tables.{rank-apart, rank-at, next-by, next-kept, next-among, next-entered}
 use Rattle.sc_engine.proofs.Rolls.{fits-again, roll-fits_still, roll-holds, roll-length}
 use Rattle.sc_engine.proofs.Proposals.{Proposed, has-except, except-alike, standing-others, counted-ended, counted-offered, fits-ended, fits-offered, nobody-goes, one-goes, put-out}
 
@@ -46,10 +46,10 @@ pub record Refused (m : Market) (r r' : RoundView) (i s at rank : ℕ) : Type 0 
 
 module _ {m : Market} {r r' : RoundView} {i s at rank : ℕ} (moved : Refused m r r' i s at rank) where
   pub rank-moved : rank_of m r'.ranks i ≡ Some (rank + 1)
-  rank-moved = ap (λ ps. rank_of m ps i) moved.ranks ∙ rank-written m r.ranks i at (Some (rank + 1)) moved.student moved.low
+  rank-moved = ap (λ ps. rank_of m ps i) moved.ranks ∙ rank-at m (set r.ranks at (Some (rank + 1))) i at moved.student ∙ get_or-set_same r.ranks at (Some (rank + 1)) None moved.low
 
   pub rank-stays : (j : ℕ) → (j ≡ i → ⊥) → rank_of m r'.ranks j ≡ rank_of m r.ranks j
-  rank-stays j apart = ap (λ ps. rank_of m ps j) moved.ranks ∙ rank-kept m r.ranks i at (Some (rank + 1)) moved.student j apart
+  rank-stays j apart = ap (λ ps. rank_of m ps j) moved.ranks ∙ rank-apart m r.ranks (set r.ranks at (Some (rank + 1))) i at moved.student (λ k other. get_or-set_other r.ranks at k (Some (rank + 1)) None other) j apart
 
   pub next-stays : (j : ℕ) → (j ≡ i → ⊥) → next_of m r'.ranks j ≡ next_of m r.ranks j
   next-stays j apart = next-kept m r.ranks r'.ranks j (rank-stays j apart)

@@ -1,5 +1,5 @@
 -- Look-ups by position, and what one write changes.
-use Rattle.std.proofs.Common.{◌≡◌, refl, ap, sym, ◌∙◌, ℕ, zero, suc, ◌<◌, nat_eq, true, List, [], ◌∷◌, length, get_or, set, map, Option, Some, None, Contains, is_some, position, slice_get, arith, get_or-set_other, get_or-set_same}
+use Rattle.std.proofs.Common.{◌≡◌, refl, ap, sym, ◌∙◌, ℕ, zero, suc, ◌<◌, nat_eq, true, List, [], ◌∷◌, length, get_or, map, Option, Some, None, Contains, is_some, position, slice_get, arith}
 use Rattle.std.specs.Option.{option_map_or, option_and_then}
 use Rattle.std.proofs.lemmas.Option.{none-some}
 use Rattle.sc_papers.specs.Market.{Market, students_of, schools_of, choices_of}
@@ -10,12 +10,6 @@ use Rattle.sc_engine.specs.RoundView.{rank_of, next_of, roll_of, roll_at, no_rol
 pub length-mapped : {X Y : Type 0} (f : X → Y) (xs : List X) → length (map f xs) ≡ length xs
 length-mapped f [] = refl
 length-mapped f (x ∷ xs) = ap suc (length-mapped f xs)
-
--- the rank of the student whose rank is written
-pub rank-written : (m : Market) (ranks : List (Option ℕ)) (i at : ℕ) (rank : Option ℕ) → position (nat_eq i) (students_of m) ≡ Some at → at < length ranks → rank_of m (set ranks at rank) i ≡ rank
-unfolding rank_of
-rank-written m ranks i at rank found low =
-    ap (λ o. option_map_or (λ k. get_or (set ranks at rank) k None) o None) found ∙ get_or-set_same ranks at rank None low
 
 -- who stands in two tables at the same rank of their position has that rank in both
 pub rank-alike : (m : Market) (ranks others : List (Option ℕ)) (i : ℕ) → ((at : ℕ) → position (nat_eq i) (students_of m) ≡ Some at → get_or ranks at None ≡ get_or others at None) → rank_of m ranks i ≡ rank_of m others i
@@ -29,10 +23,6 @@ rank-alike m ranks others i alike = go (position (nat_eq i) (students_of m)) ref
 -- the ranks of the others, where the other positions are as before
 pub rank-apart : (m : Market) (old new : List (Option ℕ)) (i at : ℕ) → position (nat_eq i) (students_of m) ≡ Some at → ((k : ℕ) → (k ≡ at → ⊥) → get_or new k None ≡ get_or old k None) → (j : ℕ) → (j ≡ i → ⊥) → rank_of m new j ≡ rank_of m old j
 rank-apart m old new i at found others j apart = rank-alike m new old j (λ k is. others k (λ same. apart (position-one (students_of m) i j at found (is ∙ ap Some same))))
-
--- the others keep theirs
-pub rank-kept : (m : Market) (ranks : List (Option ℕ)) (i at : ℕ) (rank : Option ℕ) → position (nat_eq i) (students_of m) ≡ Some at → (j : ℕ) → (j ≡ i → ⊥) → rank_of m (set ranks at rank) j ≡ rank_of m ranks j
-rank-kept m ranks i at rank found j apart = rank-apart m ranks (set ranks at rank) i at found (λ k other. get_or-set_other ranks at k rank None other) j apart
 
 -- a rank stands within the list
 pub rank-low : (ranks : List (Option ℕ)) (at rank : ℕ) → get_or ranks at None ≡ Some rank → at < length ranks
