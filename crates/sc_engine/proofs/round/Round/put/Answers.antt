@@ -64,7 +64,7 @@ unreachable-requires g c =
     omega (
       arith,
       roll-open papers old c.in-Some.proposal.school c.in-Some.proposal.position c.requires.fits so.position
-      (subst (λ (o : Option ℕ). IfSome o (λ s. held papers (next_of papers old.ranks) s < seats_of papers s)) (sym so.school) c.requires.room),
+          (subst (λ (o : Option ℕ). IfSome o (λ s. held papers (next_of papers old.ranks) s < seats_of papers s)) (sym so.school) c.requires.room),
       c.in_ok-out.ensures.own.full (sym c.is_some.ensures ∙ c.if-is_some.true),
     )
 
