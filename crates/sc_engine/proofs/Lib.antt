@@ -5,7 +5,6 @@ pub mod RollCounts
 pub mod Rolls
 pub mod Proposals
 pub mod Steps
-pub mod Papers
 pub mod Moves
 pub mod Beginning
 pub mod Starting

@@ -15,7 +15,8 @@ next-begun {m} {r} {r'} {i} {at} {rank} begun choice here =
     next-by m r'.ranks i rank (rank-begun begun) ∙ ap (λ j. slice_get (choices_of m j) rank) (sym (student-there m i at begun.student)) ∙ here
 
 -- one more student stands at a choice, where the round fits so
-stands-too : {m : Market} {r r' : RoundView} {i at rank : ℕ} → Begun m r r' i at rank → (r'' : RoundView) (choice : Option ℕ) → slice_get (choices_of m (student_at m at)) rank ≡ choice → r''.ranks ≡ r'.ranks → r''.log ≡ r'.log → r''.proposals ≡ r'.proposals → Fits m r'' → StandsToo m r r'' i choice
+stands-too : {m : Market} {r r' : RoundView} {i at rank : ℕ} → Begun m r r' i at rank → (r'' : RoundView) (choice : Option ℕ) → slice_get (choices_of m (student_at m at)) rank ≡ choice
+    → r''.ranks ≡ r'.ranks → r''.log ≡ r'.log → r''.proposals ≡ r'.proposals → Fits m r'' → StandsToo m r r'' i choice
 stands-too {m} {r} {r'} {i} begun r'' choice here same_ranks same_log same_proposals fits = record {
   fits = fits;
   entered = λ j. ap (λ ranks. is_some (rank_of m ranks j)) same_ranks ∙ entered-begun begun j;
@@ -43,7 +44,8 @@ roll-open m r s at fits school room =
     )
 
 -- a student who is put on the roll of their school, where nobody is put out
-pub put-on_roll : {m : Market} {r r' : RoundView} {i at rank : ℕ} → Begun m r r' i at rank → (r'' : RoundView) (choice : Option ℕ) (s school : ℕ) → slice_get (choices_of m (student_at m at)) rank ≡ choice → choice ≡ Some s → Proposed m r' (only i) i s school r''.rolls None → r''.ranks ≡ r'.ranks → r''.log ≡ r'.log → r''.proposals ≡ r'.proposals → StandsToo m r r'' i choice
+pub put-on_roll : {m : Market} {r r' : RoundView} {i at rank : ℕ} → Begun m r r' i at rank → (r'' : RoundView) (choice : Option ℕ) (s school : ℕ) → slice_get (choices_of m (student_at m at)) rank ≡ choice → choice ≡ Some s
+    → Proposed m r' (only i) i s school r''.rolls None → r''.ranks ≡ r'.ranks → r''.log ≡ r'.log → r''.proposals ≡ r'.proposals → StandsToo m r r'' i choice
 put-on_roll {m} {r} {r'} {i} begun r'' choice s school here is done same_ranks same_log same_proposals =
     stands-too begun r'' choice here same_ranks same_log same_proposals (fits-again r'' (next_of m r''.ranks) counted_fits counted_fits.ranks refl counted_fits.each (omega (arith, counted_fits.proposals, same_proposals)))
   where

@@ -52,8 +52,8 @@ counted m a s roll fits =
       within = fits.within;
       keyed = All-permutation (λ key. key ≡ key_of m key.student s) theirs roll.keys (IsPermutation-sym roll.keys theirs fits.holds)
           (All-map (λ key. key ≡ key_of m key.student s) (λ j. key_of m j s) (filter here (students_of m)) (λ k d low. ap (λ i. key_of m i s) (sym (key-student m _ s))));
-      exact = λ p. sym (sum_by-IsPermutation (λ (key : Key). cond (p key.student) 1 0) roll.keys theirs fits.holds) ∙ counts-mapped (λ (key : Key). p key.student) (λ j. key_of m j s) (filter here (students_of m)) ∙ (λ t. count_by (λ j. p (key-student m j s t)) (filter here (students_of m)))
-          ∙ counts-filter p here (students_of m);
+      exact = λ p. sym (sum_by-IsPermutation (λ (key : Key). cond (p key.student) 1 0) roll.keys theirs fits.holds) ∙ counts-mapped (λ (key : Key). p key.student) (λ j. key_of m j s) (filter here (students_of m))
+          ∙ (λ t. count_by (λ j. p (key-student m j s t)) (filter here (students_of m))) ∙ counts-filter p here (students_of m);
     }
 
 -- two lists in which each test counts the same have the same members

@@ -2,7 +2,8 @@
 use Rattle.std.proofs.Common.{◌≡◌, refl, ap, sym, ◌∙◌, ℕ, zero, suc, ◌<◌, nat_eq, true, List, [], ◌∷◌, length, get_or, map, Option, Some, None, Contains, is_some, position, slice_get, arith}
 use Rattle.std.specs.Option.{option_map_or, option_and_then}
 use Rattle.std.proofs.lemmas.Option.{none-some}
-use Rattle.sc_papers.specs.Market.{Market, students_of, schools_of, choices_of}
+use Rattle.sc_papers.specs.Market.{Market, student_at, students_of, schools_of, choices_of}
+use Rattle.sc_papers.proofs.Hands.{student-there}
 use Rattle.sc_papers.proofs.Positions.{position-among, position-at, position-one}
 use Rattle.sc_seats.specs.Roll.{RollView}
 use Rattle.sc_engine.specs.RoundView.{rank_of, next_of, roll_of, roll_at, no_roll, has_entered}
@@ -86,6 +87,11 @@ next-none m ranks i is = ap (option_and_then (λ k. slice_get (choices_of m i) k
 -- none for one whose position has no rank
 pub next_absent : (m : Market) (ranks : List (Option ℕ)) (i at : ℕ) → position (nat_eq i) (students_of m) ≡ Some at → get_or ranks at None ≡ None → next_of m ranks i ≡ None
 next_absent m ranks i at found absent = next-none m ranks i (rank-at m ranks i at found ∙ absent)
+
+-- that of the rank at their position
+pub next_there : (m : Market) (ranks : List (Option ℕ)) (i at rank : ℕ) (choice : Option ℕ) → position (nat_eq i) (students_of m) ≡ Some at → Some rank ≡ get_or ranks at None → choice ≡ slice_get (choices_of m (student_at m at)) rank → choice ≡ next_of m ranks i
+next_there m ranks i at rank choice found stood is =
+    is ∙ ap (λ j. slice_get (choices_of m j) rank) (student-there m i at found) ∙ sym (next-by m ranks i rank (rank-at m ranks i at found ∙ sym stood))
 
 -- nor for one who is not in the papers
 pub next_nowhere : (m : Market) (ranks : List (Option ℕ)) (i : ℕ) → None ≡ position (nat_eq i) (students_of m) → next_of m ranks i ≡ None

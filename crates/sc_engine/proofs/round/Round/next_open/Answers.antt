@@ -9,7 +9,7 @@ use Rattle.sc_engine.specs.RoundView.{IsAway, Passes, choices_left, next_of}
 use Rattle.sc_engine.specs.Round.{view_of}
 use Rattle.sc_engine.specs.Rolls.{rolls_of}
 use Rattle.sc_engine.proofs.Offers.{seen_by}
-use Rattle.sc_engine.proofs.Papers.{stander-short}
+use Rattle.sc_engine.proofs.Ranks.{stander-short}
 use Rattle.sc_engine.proofs.Proposals.{standing-most}
 use Rattle.sc_engine.proofs.Moves.{passed-more, proposes-at, roll-new}
 use Rattle.sc_engine.proofs.Tables.{length-mapped, rank-at}
@@ -62,7 +62,8 @@ reject-requires-clause-rank g c rank is =
 
 -- one more school has refused
 one-more : (g : given.Over) (c : goal.In_ok-reject g) (away : ℕ → Bool) → IsAway c.args.papers.now (view_of g.R.Roll.keys g.R.Roll.seats c.args.self.now) away (student_at c.args.papers.now c.args.proposer)
-    → Passes c.args.papers.now (view_of g.R.Roll.keys g.R.Roll.seats c.args.self.now) away (view_of g.R.Roll.keys g.R.Roll.seats c.reject.new.self) (student_at c.args.papers.now c.args.proposer) × (choices_left c.args.papers.now c.reject.new.self.ranks < choices_left c.args.papers.now c.passed.self.ranks)
+    → Passes c.args.papers.now (view_of g.R.Roll.keys g.R.Roll.seats c.args.self.now) away (view_of g.R.Roll.keys g.R.Roll.seats c.reject.new.self) (student_at c.args.papers.now c.args.proposer)
+    × (choices_left c.args.papers.now c.reject.new.self.ranks < choices_left c.args.papers.now c.passed.self.ranks)
 one-more g c away hand =
     let papers = c.args.papers.now in
     passed-more papers (view_of g.R.Roll.keys g.R.Roll.seats c.args.self.now) (view_of g.R.Roll.keys g.R.Roll.seats c.passed.self) (view_of g.R.Roll.keys g.R.Roll.seats c.reject.new.self) away (student_at papers c.args.proposer) c.args.proposer c.in-Some.proposal

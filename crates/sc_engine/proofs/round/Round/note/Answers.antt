@@ -2,7 +2,7 @@ use Rattle.std.proofs.Common.{ℕ, ap, ◌∙◌, arith}
 use Rattle.sc_engine.specs.Round.{view_of}
 use Rattle.sc_engine.specs.Rolls.{rolls_of}
 use Rattle.sc_engine.proofs.Moves.{refused-told}
-use Rattle.sc_engine.proofs.Papers.{stander-short, stander-student}
+use Rattle.sc_engine.proofs.Ranks.{stander-short, stander-student}
 use Rattle.sc_engine.proofs.Proposals.{standing-most}
 use Rattle.sc_engine.proofs.Steps.{Refused, left-refused, passes-refused}
 use Rattle.sc_engine.proofs.Tables.{rank-at}

@@ -26,7 +26,7 @@ proposed : (g : given.Over) (c : In_ok-out g) (away : ℕ → Bool) → IsAway c
     → (out : Option Key) → c.in_ok-out.field-0 ≡ out
     → Proposed c.args.papers.now (view_of g.R.Roll.keys g.R.Roll.seats c.next_open.new.self) away (student_at c.args.papers.now c.args.proposer) c.in-Some.proposal.school c.in-Some.proposal.position (rolls_of g.R.Roll.keys g.R.Roll.seats c.offer_to.new.rolls.items) out
 proposed g c away hand made out is =
-    proposed-told c.args.papers.now (view_of g.R.Roll.keys g.R.Roll.seats c.next_open.new.self) away (student_at c.args.papers.now c.args.proposer) c.in-Some.proposal.school c.in-Some.proposal.position c.of-offered.result (rolls_of g.R.Roll.keys g.R.Roll.seats c.offer_to.new.rolls.items) c.in_ok-out.field-0 out
+    proposed-told c.args.papers.now (view_of g.R.Roll.keys g.R.Roll.seats c.next_open.new.self) away (student_at c.args.papers.now c.args.proposer) c.in-Some.proposal.school c.in-Some.proposal.position c.of-offered.result _ c.in_ok-out.field-0 out
     (record { fits = (c.in_ok-proposal.ensures.passed away hand).moves.fits; gone = hand.gone }) (sym made.school) made.position (c.of-offered.ensures ∙ made.key) c.in_ok-out.ensures is
 
 pub returns-in_default : goal.returns-in_default
