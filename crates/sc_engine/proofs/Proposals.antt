@@ -80,13 +80,11 @@ only-away {i = i} fits = record { fits = fits; gone = eq-eqb i i refl }
 
 -- what is asked of a student's place, where those who are away are left out
 pub asked-except : (test : Option ℕ → Bool) → test None ≡ false → (away : ℕ → Bool) (a : Matching) (j : ℕ) → test (except away a j) ≡ (test (a j) && not (away j))
-asked-except test none away a j = go (away j) (test (a j)) refl
+asked-except test none away a j = go (away j)
   where
-    go : (gone passes : Bool) → test (a j) ≡ passes → test (cond gone None (a j)) ≡ (passes && not gone)
-    go true true is = none
-    go true false is = none
-    go false true is = is
-    go false false is = is
+    go : (gone : Bool) → test (cond gone None (a j)) ≡ (test (a j) && not gone)
+    go true = none ∙ sym (and_right (test (a j)) false refl)
+    go false = sym (and-keeps (test (a j)) true refl)
 
 pub has-except : (away : ℕ → Bool) (a : Matching) (s j : ℕ) → has (except away a) s j ≡ (has a s j && not (away j))
 has-except away a s j = asked-except (λ o. option_map_or (λ t. t == s) o false) refl away a j

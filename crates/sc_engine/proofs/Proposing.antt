@@ -1,8 +1,8 @@
 -- What the papers propose at a rank.
-use Rattle.std.proofs.Common.{◌≡◌, refl, sym, subst, ℕ, nat_eq, Option, Some, None, IfSome, position, slice_get}
+use Rattle.std.proofs.Common.{◌≡◌, refl, sym, subst, ℕ, nat_eq, Option, Some, None, IfSome, position}
 use Rattle.std.specs.Option.{option_map}
 use Rattle.sc_papers.specs.Key.{key_of}
-use Rattle.sc_papers.specs.Market.{Market, choices_of, schools_of, student_at}
+use Rattle.sc_papers.specs.Market.{Market, schools_of, student_at}
 use Rattle.sc_papers.specs.declared.proposal.Proposal.{Proposal}
 use Rattle.sc_engine.specs.Proposals.{IsProposal}
 
@@ -12,10 +12,12 @@ proposes_nothing m i choice proposal none nowhere =
     subst (λ (c : Option ℕ). IsProposal m i c proposal) (sym nowhere) (subst (IsProposal m i None) (sym none) (record { school = refl; position = tt; key = tt }))
 
 -- what is said of the student at a position, said of the student who stands there
-pub proposes_there : (m : Market) (i at rank : ℕ) (proposal : Option Proposal) → student_at m at ≡ i
-    → option_map (λ p. p.school) proposal ≡ slice_get (choices_of m (student_at m at)) rank
+pub proposes_there : (m : Market) (i at : ℕ) (choice : Option ℕ) (proposal : Option Proposal) → student_at m at ≡ i → option_map (λ p. p.school) proposal ≡ choice
     → IfSome proposal (λ p. position (nat_eq p.school) (schools_of m) ≡ Some p.position)
     → IfSome proposal (λ p. p.key ≡ key_of m (student_at m at) p.school)
-    → IsProposal m i (slice_get (choices_of m i) rank) proposal
-proposes_there m i at rank proposal there school place key =
-    subst (λ (j : ℕ). IsProposal m j (slice_get (choices_of m j) rank) proposal) there (record { school = school; position = place; key = key })
+    → IsProposal m i choice proposal
+proposes_there m i at choice proposal there school place key = record {
+  school = school;
+  position = place;
+  key = subst (λ (j : ℕ). IfSome proposal (λ p. p.key ≡ key_of m j p.school)) there key;
+}

@@ -71,6 +71,11 @@ rank-stands next_choices k at choice low here =
     list_any_at (λ (one : Standing). one.student == choice.student) (take k next_choices) at choice (omega (arith, low, slice_get_within next_choices at choice here, length-take k next_choices))
     (eq-eqb _ _ (ap (λ (one : Standing). one.student) (get_or-take k next_choices at choice low ∙ get_or_from_slice_get next_choices at choice choice here)))
 
+-- what holds of any choice holds if there is one
+if-some : (o : Option ℕ) (P : ℕ → Type 0) → ((s : ℕ) → o ≡ Some s → P s) → IfSome o P
+if-some None P holds = tt
+if-some (Some s) P holds = holds s refl
+
 module _ {m : Market} {earlier : List Rejection} {next_choices : List Standing} (after : AreNextChoices m earlier next_choices) where
   -- where a choice says that its student stands
   pub next-after : (at : ℕ) (choice : Standing) → slice_get next_choices at ≡ Some choice → choice.next ≡ next_choice m earlier choice.student
@@ -78,11 +83,7 @@ module _ {m : Market} {earlier : List Rejection} {next_choices : List Standing} 
 
   -- the student lists the school
   pub listed-after : (at : ℕ) (choice : Standing) → slice_get next_choices at ≡ Some choice → IfSome choice.next (λ s. Contains (choices_of m choice.student) s)
-  listed-after at choice here = go choice.next (next-after at choice here)
-    where
-      go : (o : Option ℕ) → o ≡ next_choice m earlier choice.student → IfSome o (λ s. Contains (choices_of m choice.student) s)
-      go None is = tt
-      go (Some s) is = next-listed m earlier choice.student s (sym is)
+  listed-after at choice here = if-some choice.next (λ s. Contains (choices_of m choice.student) s) (λ s is. next-listed m earlier choice.student s (sym (next-after at choice here) ∙ is))
 
   module _ {r : RoundView} {spent : Bool} {k : ℕ} (put : PutFirst m next_choices r spent k) where
     -- who has entered stands at their next choice after the earlier log
@@ -123,11 +124,7 @@ module _ {m : Market} {earlier : List Rejection} {next_choices : List Standing} 
         omega (arith, fewer, after.settled.within_seats s, counts-restricted m test (has (matching_of n earlier) s), seats-restricted m test s)
 
     pub room-put_if : (choice : Standing) → slice_get next_choices k ≡ Some choice → IfSome choice.next (λ s. held m (next_of m r.ranks) s < seats_of m s)
-    room-put_if choice here = go choice.next refl
-      where
-        go : (o : Option ℕ) → choice.next ≡ o → IfSome o (λ s. held m (next_of m r.ranks) s < seats_of m s)
-        go None is = tt
-        go (Some s) is = room-put choice s here is
+    room-put_if choice here = if-some choice.next (λ s. held m (next_of m r.ranks) s < seats_of m s) (λ s is. room-put choice s here is)
 
     -- one more
     pub put-more : (r' : RoundView) (spent' : Bool) (choice : Standing) → slice_get next_choices k ≡ Some choice → StandsToo m r r' choice.student choice.next → spent' ≡ spent → PutFirst m next_choices r' spent' (k + 1)

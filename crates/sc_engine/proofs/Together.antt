@@ -5,14 +5,14 @@ use Rattle.std.specs.List.Sorted.{IsPermutation}
 use Rattle.std.proofs.lemmas.Bool.{cases_eq, eq-eqb, ne_eqb, false≢true, and_right}
 use Rattle.std.proofs.lemmas.Cmp.{nat_eq_equiv}
 use Rattle.std.specs.Option.{option_to_list}
-use Rattle.std.proofs.lemmas.List.{map-append}
+use Rattle.std.proofs.lemmas.List.{get_or-map, length-map, map-append}
 use Rattle.std.proofs.lemmas.List.Elements.{All-nil, All-append, All-contains, All-contains_itself, All-cons, All-tail, All-weaker, Contains-append_right}
 use Rattle.std.proofs.lemmas.List.Sorted.{IsPermutation-middle, list_any-IsPermutation}
 use Rattle.std.proofs.lemmas.Map.Keys.{IsDistinct-head, IsDistinct-tail, IsDistinct-push, IsDistinct-IsPermutation}
 use Rattle.sc_papers.specs.Chain.{and_one}
 use Rattle.sc_papers.specs.Market.{Market, student_at, students_of}
 use Rattle.sc_papers.specs.declared.rejection.Rejection.{Rejection}
-use Rattle.sc_papers.proofs.Counting.{contains-cons, contains-head, contains-tail}
+use Rattle.sc_papers.proofs.Counting.{contains-head}
 use Rattle.sc_papers.proofs.Hands.{student-there}
 use Rattle.sc_papers.proofs.Positions.{any-among}
 use Rattle.sc_papers.proofs.Rejections.{any-push}
@@ -42,11 +42,11 @@ without-first x xs differ = λ t j. others j t
     ]
 
 contains-student : (outs : List Rejection) (e : Rejection) → Contains outs e → Contains (map (λ (out : Rejection). out.student) outs) e.student
-contains-student [] e (k, low, at) = absurd (omega (arith, low))
-contains-student (o ∷ os) e held = elim (contains-cons o os e held) [
-  | inl same ↦ subst (Contains (map (λ (out : Rejection). out.student) (o ∷ os))) (ap (λ (out : Rejection). out.student) same) (contains-head o.student (map (λ (out : Rejection). out.student) os))
-  | inr later ↦ contains-tail o.student (map (λ (out : Rejection). out.student) os) e.student (contains-student os e later)
-]
+contains-student outs e (k, low, at) = (
+  k,
+  omega (arith, low, length-map outs (λ (out : Rejection). out.student)),
+  get_or-map (λ (out : Rejection). out.student) outs k e e.student low ∙ ap (λ (out : Rejection). out.student) at,
+)
 
 -- whoever has been put out stays so where another student moves
 stay-put : {m : Market} {r r' : RoundView} (i : ℕ) (hands : List ℕ) (outs : List Rejection) → OthersStay m r r' i → among (all_of hands outs) i ≡ false → All (IsPutOut m r) outs → All (IsPutOut m r') outs

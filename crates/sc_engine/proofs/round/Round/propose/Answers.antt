@@ -12,20 +12,15 @@ use Rattle.sc_engine.proofs.Proposals.{Proposed, standing-most}
 use Rattle.sc_engine.proofs.Steps.{proposes-after, proposes-ended, proposes-offered}
 use Rattle.sc_engine.proofs.round.Round.propose.Given as given
 use Rattle.sc_engine.proofs.round.Round.propose.Goals as goal
-use Rattle.sc_engine.proofs.round.Round.propose.Goals.{In-Some, In_ok-out}
+use Rattle.sc_engine.proofs.round.Round.propose.Goals.{In_ok-out}
 
--- the student proposes as the papers tell
-made : (g : given.Over) (c : In-Some g) → IsProposal c.args.papers.now (student_at c.args.papers.now c.args.proposer) (next_of c.args.papers.now c.next_open.new.self.ranks (student_at c.args.papers.now c.args.proposer)) (Some c.in-Some.proposal)
-made g c =
-    let i : ℕ = student_at c.args.papers.now c.args.proposer in
-    subst (IsProposal c.args.papers.now i (next_of c.args.papers.now c.next_open.new.self.ranks i)) c.in-Some.is c.in_ok-proposal.ensures.next
-
--- and the roll answers
+-- the student proposes as the papers tell, and the roll answers
 proposed : (g : given.Over) (c : In_ok-out g) (away : ℕ → Bool) → IsAway c.args.papers.now (view_of g.R.Roll.keys g.R.Roll.seats c.args.self.now) away (student_at c.args.papers.now c.args.proposer)
-    → IsProposal c.args.papers.now (student_at c.args.papers.now c.args.proposer) (next_of c.args.papers.now c.next_open.new.self.ranks (student_at c.args.papers.now c.args.proposer)) (Some c.in-Some.proposal)
     → (out : Option Key) → c.in_ok-out.field-0 ≡ out
     → Proposed c.args.papers.now (view_of g.R.Roll.keys g.R.Roll.seats c.next_open.new.self) away (student_at c.args.papers.now c.args.proposer) c.in-Some.proposal.school c.in-Some.proposal.position (rolls_of g.R.Roll.keys g.R.Roll.seats c.offer_to.new.rolls.items) out
-proposed g c away hand made out is =
+proposed g c away hand out is =
+    let i : ℕ = student_at c.args.papers.now c.args.proposer in
+    let made = subst (IsProposal c.args.papers.now i (next_of c.args.papers.now c.next_open.new.self.ranks i)) c.in-Some.is c.in_ok-proposal.ensures.next in
     proposed-told c.args.papers.now (view_of g.R.Roll.keys g.R.Roll.seats c.next_open.new.self) away (student_at c.args.papers.now c.args.proposer) c.in-Some.proposal.school c.in-Some.proposal.position c.of-offered.result _ c.in_ok-out.field-0 out
     (record { fits = (c.in_ok-proposal.ensures.passed away hand).moves.fits; gone = hand.gone }) (sym made.school) made.position (c.of-offered.ensures ∙ made.key) c.in_ok-out.ensures is
 
@@ -38,7 +33,8 @@ returns-in_default g c away hand =
 pub offer_to-requires-clause-new : goal.offer_to-requires-clause-new
 offer_to-requires-clause-new g c =
     let (away, hand) = c.requires.away in
-    let told = made g (goal.at.offer_to-requires-clause-new g c).In-Some in
+    let i : ℕ = student_at c.args.papers.now c.args.proposer in
+    let told = subst (IsProposal c.args.papers.now i (next_of c.args.papers.now c.next_open.new.self.ranks i)) c.in-Some.is c.in_ok-proposal.ensures.next in
     roll-new c.args.papers.now (view_of g.R.Roll.keys g.R.Roll.seats c.next_open.new.self) away (student_at c.args.papers.now c.args.proposer) c.in-Some.proposal.school c.in-Some.proposal.position c.of-offered.result
     (record { fits = (c.in_ok-proposal.ensures.passed away hand).moves.fits; gone = hand.gone }) told.position (c.of-offered.ensures ∙ told.key)
 
@@ -50,14 +46,12 @@ overflow_add-self g c =
 pub returns-in_default-2 : goal.returns-in_default-2
 returns-in_default-2 g c away hand =
     let mid : RoundView = view_of g.R.Roll.keys g.R.Roll.seats c.next_open.new.self in
-    let at = goal.at.returns-in_default-2 g c in
     proposes-after (c.in_ok-proposal.ensures.passed away hand)
-    (proposes-offered None (record mid { rolls = rolls_of g.R.Roll.keys g.R.Roll.seats c.offer_to.new.rolls.items; proposals = mid.proposals + 1 }) (proposed g at.In_ok-out away hand (made g at.In-Some) None c.in_default-2.is) refl refl (omega arith))
+    (proposes-offered None (record mid { rolls = rolls_of g.R.Roll.keys g.R.Roll.seats c.offer_to.new.rolls.items; proposals = mid.proposals + 1 }) (proposed g (goal.at.returns-in_default-2 g c).In_ok-out away hand None c.in_default-2.is) refl refl (omega arith))
 
 pub returns : goal.returns
 returns g c away hand =
     let mid : RoundView = view_of g.R.Roll.keys g.R.Roll.seats c.next_open.new.self in
-    let at = goal.at.returns g c in
     proposes-after (c.in_ok-proposal.ensures.passed away hand)
     (proposes-offered (Some c.key-student.result) (record mid { rolls = rolls_of g.R.Roll.keys g.R.Roll.seats c.offer_to.new.rolls.items })
-    (proposed g at.In_ok-out away hand (made g at.In-Some) (Some c.key-student.result) (c.in-Some-2.is ∙ ap Some (sym c.key-student.ensures))) refl refl (omega arith))
+    (proposed g (goal.at.returns g c).In_ok-out away hand (Some c.key-student.result) (c.in-Some-2.is ∙ ap Some (sym c.key-student.ensures))) refl refl (omega arith))

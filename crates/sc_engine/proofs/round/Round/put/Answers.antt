@@ -1,4 +1,4 @@
-use Rattle.std.proofs.Common.{refl, ap, sym, subst, ◌∙◌, ℕ, ◌<◌, List, Option, Some, None, Contains, IfSome, slice_get, arith}
+use Rattle.std.proofs.Common.{refl, ap, sym, subst, ◌∙◌, ℕ, ◌<◌, List, Option, Some, None, Contains, IfSome, arith}
 use Rattle.std.specs.Option.{option_map}
 use Rattle.sc_papers.specs.Market.{choices_of, seats_of}
 use Rattle.sc_papers.specs.Matching.{held}
@@ -31,10 +31,9 @@ told : (g : given.Over) (c : In-Some g) → IsProposal c.args.papers.now c.args.
 told g c =
     let papers = c.args.papers.now in
     let i = c.args.choice.student in
-    let there = student-there papers i c.position_near-at.result c.position_near-at.ensures in
-    subst (λ (choice : Option ℕ). IsProposal papers i choice (Some c.in-Some.proposal)) (ap (λ j. slice_get (choices_of papers j) c.rank_in-rank.result) (sym there) ∙ c.rank_in-rank.ensures.rank)
-    (subst (IsProposal papers i (slice_get (choices_of papers i) c.rank_in-rank.result)) c.in-Some.is
-    (proposes_there papers i c.position_near-at.result c.rank_in-rank.result c.proposal.result there c.proposal.ensures.school c.proposal.ensures.position c.proposal.ensures.key))
+    subst (IsProposal papers i c.args.choice.next) c.in-Some.is
+    (proposes_there papers i c.position_near-at.result c.args.choice.next c.proposal.result (student-there papers i c.position_near-at.result c.position_near-at.ensures)
+    (c.proposal.ensures.school ∙ c.rank_in-rank.ensures.rank) c.proposal.ensures.position c.proposal.ensures.key)
 
 pub rank_in-rank-requires-clause-listed : goal.rank_in-rank-requires-clause-listed
 rank_in-rank-requires-clause-listed g c =
