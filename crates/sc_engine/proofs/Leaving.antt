@@ -189,11 +189,6 @@ module _ (m : Market) (test : ℕ → Bool) (positions : List ℕ) (at : StandAt
       empty-roll (roll_at new.rolls k) (key_of m j s) (rolls.done some.p k some.among some.there)
       (subst (λ (roll : RollView). Contains roll.keys (key_of m j s)) (sym same) (roll-holds m (next_of m old.ranks) s (roll_at old.rolls k) j before (next-among m old.ranks j s next) next))))
 
-  fits-unknown : (s : ℕ) → roll_of m old.rolls s ≡ no_roll → RollFits m (next_of m new.ranks) s no_roll
-  fits-unknown s is =
-      let before : RollFits m (next_of m old.ranks) s no_roll = subst (RollFits m (next_of m old.ranks) s) is (fits.each s) in
-      fits-same s no_roll before (λ j passes next. empty-roll no_roll (key_of m j s) refl (roll-holds m (next_of m old.ranks) s no_roll j before (next-among m old.ranks j s next) next))
-
   -- a roll that is emptied fits: all who stood there pass
   fits-emptied : (s k : ℕ) → position (nat_eq s) (schools_of m) ≡ Some k → roll_at new.rolls k ≡ record { keys = []; seats = (roll_at old.rolls k).seats } → SomeStands m old.ranks positions k
       → RollFits m (next_of m new.ranks) s (roll_at new.rolls k)
@@ -232,7 +227,9 @@ module _ (m : Market) (test : ℕ → Bool) (positions : List ℕ) (at : StandAt
   fits-left s = go (position (nat_eq s) (schools_of m)) refl
     where
       go : (o : Option ℕ) → position (nat_eq s) (schools_of m) ≡ o → RollFits m (next_of m new.ranks) s (option_map_or (roll_at new.rolls) o no_roll)
-      go None is = fits-unknown s (ap (λ o. option_map_or (roll_at old.rolls) o no_roll) is)
+      go None is =
+          let before : RollFits m (next_of m old.ranks) s no_roll = subst (RollFits m (next_of m old.ranks) s) (ap (λ o. option_map_or (roll_at old.rolls) o no_roll) is) (fits.each s) in
+          fits-same s no_roll before (λ j passes next. empty-roll no_roll (key_of m j s) refl (roll-holds m (next_of m old.ranks) s no_roll j before (next-among m old.ranks j s next) next))
       go (Some k) is = elim (rolls.each k) [ inl same ↦ fits-stayed s k is same | inr (empty, some) ↦ fits-emptied s k is empty some ]
 
   pub left : Leave m test old new

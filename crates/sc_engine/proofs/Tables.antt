@@ -12,14 +12,15 @@ pub length-mapped : {X Y : Type 0} (f : X → Y) (xs : List X) → length (map f
 length-mapped f [] = refl
 length-mapped f (x ∷ xs) = ap suc (length-mapped f xs)
 
+-- what is looked up in two tables that are alike at a position, if there is one
+alike-there : {X : Type 0} (f g : ℕ → X) (d : X) (o : Option ℕ) → ((k : ℕ) → o ≡ Some k → f k ≡ g k) → option_map_or f o d ≡ option_map_or g o d
+alike-there f g d None alike = refl
+alike-there f g d (Some k) alike = alike k refl
+
 -- who stands in two tables at the same rank of their position has that rank in both
 pub rank-alike : (m : Market) (ranks others : List (Option ℕ)) (i : ℕ) → ((at : ℕ) → position (nat_eq i) (students_of m) ≡ Some at → get_or ranks at None ≡ get_or others at None) → rank_of m ranks i ≡ rank_of m others i
 unfolding rank_of
-rank-alike m ranks others i alike = go (position (nat_eq i) (students_of m)) refl
-  where
-    go : (o : Option ℕ) → position (nat_eq i) (students_of m) ≡ o → option_map_or (λ k. get_or ranks k None) o None ≡ option_map_or (λ k. get_or others k None) o None
-    go None is = refl
-    go (Some k) is = alike k is
+rank-alike m ranks others i alike = alike-there (λ k. get_or ranks k None) (λ k. get_or others k None) None (position (nat_eq i) (students_of m)) alike
 
 -- the ranks of the others, where the other positions are as before
 pub rank-apart : (m : Market) (old new : List (Option ℕ)) (i at : ℕ) → position (nat_eq i) (students_of m) ≡ Some at → ((k : ℕ) → (k ≡ at → ⊥) → get_or new k None ≡ get_or old k None) → (j : ℕ) → (j ≡ i → ⊥) → rank_of m new j ≡ rank_of m old j
@@ -111,8 +112,5 @@ roll-at m rolls s at found = ap (λ o. option_map_or (roll_at rolls) o no_roll) 
 -- the other schools keep theirs
 pub roll-kept : (m : Market) (old new : List RollView) (s at : ℕ) → position (nat_eq s) (schools_of m) ≡ Some at → ((other : ℕ) → (other ≡ at → ⊥) → roll_at new other ≡ roll_at old other) → (t : ℕ) → (t ≡ s → ⊥) → roll_of m new t ≡ roll_of m old t
 unfolding roll_of
-roll-kept m old new s at found others t apart = go (position (nat_eq t) (schools_of m)) refl
-  where
-    go : (o : Option ℕ) → position (nat_eq t) (schools_of m) ≡ o → option_map_or (roll_at new) o no_roll ≡ option_map_or (roll_at old) o no_roll
-    go None is = refl
-    go (Some k) is = others k (λ same. apart (position-one (schools_of m) s t at found (is ∙ ap Some same)))
+roll-kept m old new s at found others t apart =
+    alike-there (roll_at new) (roll_at old) no_roll (position (nat_eq t) (schools_of m)) (λ k is. others k (λ same. apart (position-one (schools_of m) s t at found (is ∙ ap Some same))))

@@ -55,7 +55,7 @@ fn rank_at(ranks: &[Option<u8>], at: usize) -> Option<usize>
 }
 
 /// The choice at which the student at the position stands.
-#[tactic(auto, using(crate::proofs::Tables::next_absent))]
+#[tactic(auto, using(crate::proofs::Tables::next_absent, crate::proofs::Tables::next_there))]
 fn choice_at(ranks: &[Option<u8>], papers: &FlatPapers, at: usize) -> Option<SchoolNo>
     requires { at < length papers.now.students }
     ensures { (i : ℕ) → position (nat_eq i) (students_of papers.now) ≡ Some at
