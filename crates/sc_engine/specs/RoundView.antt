@@ -185,7 +185,7 @@ pub record Moves (m : Market) (old : RoundView) (away : ℕ → Bool) (new : Rou
 abbrev pub without : (ℕ → Bool) → ℕ → ℕ → Bool
 without away i = λ j. away j && not (j == i)
 
--- what a student who is away does who passes on choices, and whoever else is away stays so
+-- a student who is away moves on past choices and still is away, and whoever else has been put out stays so
 pub record Passes (m : Market) (old : RoundView) (away : ℕ → Bool) (new : RoundView) (i : ℕ) : Type 0 where
   pub moves : Moves m old away new away
   pub others : OthersStay m old new i
