@@ -1,6 +1,6 @@
 //! Rounds that everybody enters at once, several proposing one after the other.
 
-ghost use Rattle.std.specs.Prelude.{◌≡◌, ℕ, ◌<◌, ◌≤◌, ◌∷◌, ◌++◌, [], false, All, List, length, OnOk};
+ghost use Rattle.std.specs.Prelude.{◌≡◌, ℕ, ◌<◌, ◌≤◌, ◌∷◌, ◌++◌, [], false, All, List, length, true, OnErr, OnOk};
 ghost use Rattle.sc_papers.specs.Market.{student_at, students_of};
 ghost use Rattle.sc_papers.specs.declared.rejection.Rejection.{Rejection as Entry};
 ghost use Rattle.sc_engine.specs.Applicants.{numbers_of, AreEverybody, IsWithin};
@@ -22,18 +22,22 @@ const AHEAD: usize = 16;
 /// How many may wait before they propose.
 const MOST_WAITING: usize = 32;
 
-/// Asks for the row of the student at a position, if there is one: to read it to its end brings it near. Nobody looks at what
-/// was read: it goes into a list, since a read that goes nowhere is none.
+/// Asks for the rank of the student at a position, if there is one, and for their row: to read the choice at that rank brings
+/// near what their proposals read. Nobody looks at what was read: it goes into a list, since a read that goes nowhere is none.
 fn ask_for_row(
     papers: &FlatPapers,
+    ranks: &[Option<u8>],
     at: usize,
     read: &mut Vec<ClassedChoice>,
 ) -> Result<(), AllocError> {
     if at >= papers.students_len() {
         return Ok(());
     }
-    if let Some(last) = papers.classed_choices_at(at).last() {
-        read.push(*last)?;
+    let Some(Some(rank)) = ranks.get(at) else {
+        return Ok(());
+    };
+    if let Some(choice) = papers.classed_choices_at(at).get(usize::from(*rank)) {
+        read.push(*choice)?;
     }
     Ok(())
 }
@@ -42,6 +46,7 @@ fn ask_for_row(
 /// side.
 fn ask_for_applicants(
     papers: &FlatPapers,
+    ranks: &[Option<u8>],
     applicants: &[Applicant],
     turn: usize,
     read: &mut Vec<ClassedChoice>,
@@ -51,7 +56,7 @@ fn ask_for_applicants(
         let Some(applicant) = applicants.get(place) else {
             return Ok(());
         };
-        ask_for_row(papers, applicant.position as usize, read)?;
+        ask_for_row(papers, ranks, applicant.position as usize, read)?;
     }
     Ok(())
 }
@@ -59,6 +64,7 @@ fn ask_for_applicants(
 /// The same for the first of those who have been put out, where they may stand.
 fn ask_for_put_out(
     papers: &FlatPapers,
+    ranks: &[Option<u8>],
     waiting: &VecDeque<PutOut>,
     read: &mut Vec<ClassedChoice>,
 ) -> Result<(), AllocError> {
@@ -67,7 +73,7 @@ fn ask_for_put_out(
         let Some(out) = waiting.get(place) else {
             return Ok(());
         };
-        ask_for_row(papers, out.guess, read)?;
+        ask_for_row(papers, ranks, out.guess, read)?;
     }
     Ok(())
 }
@@ -117,7 +123,7 @@ impl<R: Roll> Round<R> {
         let mut near = 0;
         while waiting.len() >= least {
             if near == 0 {
-                ask_for_put_out(papers, waiting, read)?;
+                ask_for_put_out(papers, self.ranks.as_slice(), waiting, read)?;
                 near = AHEAD;
             }
             near -= 1;
@@ -144,7 +150,7 @@ impl<R: Roll> Round<R> {
         let mut read = Vec::new(self.alloc);
         for (turn, applicant) in applicants.iter().enumerate() {
             if turn % AHEAD == 0 {
-                ask_for_applicants(papers, applicants, turn, &mut read)?;
+                ask_for_applicants(papers, self.ranks.as_slice(), applicants, turn, &mut read)?;
             }
             self.propose_on(papers, applicant.position as usize, &mut waiting)?;
             if waiting.len() >= MOST_WAITING {
@@ -152,6 +158,21 @@ impl<R: Roll> Round<R> {
             }
         }
         self.work_off(papers, &mut waiting, &mut read, 1)?;
+        Ok(())
+    }
+
+    /// Everybody stands at their first choice, and proposes, in this order.
+    fn enter_everybody(
+        &mut self,
+        papers: &FlatPapers,
+        applicants: &[Applicant],
+    ) -> Result<(), AllocError>
+        requires fresh { IsFresh R.keys R.seats papers.now self.old }
+        requires everybody { AreEverybody papers.now applicants.now }
+        ensures { OnOk result (HaveEntered papers.now (view_of R.keys R.seats self.new) (students_of papers.now)) }
+    {
+        self.ranks.put_everybody(papers.students_len())?;
+        self.settle_together(papers, applicants)?;
         Ok(())
     }
 
@@ -168,12 +189,10 @@ impl<R: Roll> Round<R> {
         ensures entered { OnOk result (HaveEntered papers.now (view_of R.keys R.seats self.new)
             (students_of papers.now)) }
         ensures ready { OnOk result (is_spent self.new ≡ false) }
+        ensures spent { OnErr result (is_spent self.new ≡ true) }
     {
-        // A refused growth leaves it so.
-        self.spent = true;
-        self.ranks.put_everybody(papers.students_len())?;
-        self.settle_together(papers, applicants)?;
-        self.spent = false;
-        Ok(())
+        let entered = self.enter_everybody(papers, applicants);
+        self.spent = entered.is_err();
+        entered
     }
 }
