@@ -215,7 +215,7 @@ def make_case(seed, at):
             log = reference.call_match(key, *(texts[name] for name in INPUTS["match"]), print_log=True)[0]
         except reference.Stop:
             log = b"1,1\n"
-        texts["log"] = log if rng.random() < 0.6 else changed(rng, log)
+        texts["log"] = log if rng.random() < 0.4 else rng.choice([almost_tidy, changed])(rng, log)
         if rng.random() < 0.6:
             texts["report"] = published(rng, key, texts)
     elif kind in ("replay", "changes") or (kind in OPTIONAL and rng.random() < 0.7):

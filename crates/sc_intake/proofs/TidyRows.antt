@@ -5,12 +5,12 @@ use Rattle.csv.specs.Records.{field_at}
 use Rattle.sc_papers.specs.declared.school_no.TheConstants.SchoolNo.{GREATEST as greatest_school}
 use Rattle.sc_intake.specs.Blanks.{trimmed}
 use Rattle.sc_intake.specs.Fault.{◌>>=◌}
-use Rattle.sc_intake.specs.Field.{as_school_or_none, as_student, as_zone, is_within, number_of, number_or_none, numbers_after, words_after}
+use Rattle.sc_intake.specs.Field.{as_school, as_school_or_none, as_student, as_zone, is_within, number_of, number_or_none, numbers_after, words_after}
 use Rattle.sc_intake.specs.File.{text_at}
 use Rattle.sc_intake.specs.Lists.{choices_of}
 use Rattle.sc_intake.specs.Plain.{cut, first_line}
 use Rattle.sc_intake.specs.Roster.{student_of}
-use Rattle.sc_intake.specs.Tidy.{AreSchools, EndsRow, HasLine, IsSchoolOrNone, TakesField, TakesNumber, TakesRow}
+use Rattle.sc_intake.specs.Tidy.{AreSchools, EndsRow, HasLine, IsSchoolOrNone, TakesField, TakesNumber, TakesRejection, TakesRow}
 use Rattle.sc_intake.specs.declared.blanks.Blanks.TheVariants.{InLine}
 use Rattle.sc_intake.specs.declared.fault.Cause.{Cause}
 use Rattle.sc_intake.specs.declared.roster.RosterRow.{RosterRow}
@@ -70,6 +70,25 @@ list-row by_lines row text after more rest n student choices takes comma field e
       fields = digits ∷ field.field ∷ [];
       next = ap (cut by_lines) whole ∙ first-record by_lines digits (44 ∷ more) rest (digits ∷ field.field ∷ []) clean are.some line;
       reads = rw (trimmed-number digits n takes.number, field.reads.0, ranged, field.reads.1) refl;
+    }
+
+-- a rejection
+pub rejection-row : (by_lines : Bool) (text after more rest : List ℕ) (n k student school : ℕ) → TakesNumber text after n → after ≡ 44 ∷ more → TakesNumber more rest k → first_line rest ≡ []
+    → as_student n ≡ Ok student → as_school k ≡ Ok school → TakesRejection (cut by_lines text) (cut by_lines rest) (record { student = student; school = school })
+unfolding field_at
+rejection-row by_lines text after more rest n k student school takes comma takes_school ends ranged school_ranged =
+    let digits = takes.digits in
+    let school_digits = takes_school.digits in
+    let are = number-digits digits n takes.number in
+    let clean = digits-clean digits are.all in
+    let whole : text ≡ digits ++ 44 ∷ more = takes.cut ∙ ap (λ (t : List ℕ). digits ++ t) comma in
+    let last = line-last school_digits rest (digits-clean school_digits (number-digits school_digits k takes_school.number).all) ends in
+    let tail : HasLine more rest (school_digits ∷ []) = rw (← takes_school.cut) at last in
+    let line : HasLine (digits ++ 44 ∷ more) rest (digits ∷ school_digits ∷ []) = line-more digits more rest (school_digits ∷ []) clean tail in
+    record {
+      fields = digits ∷ school_digits ∷ [];
+      next = ap (cut by_lines) whole ∙ first-record by_lines digits (44 ∷ more) rest (digits ∷ school_digits ∷ []) clean are.some line;
+      reads = rw (trimmed-number digits n takes.number, trimmed-number school_digits k takes_school.number, ranged, school_ranged) refl;
     }
 
 -- a row of the roster with this school at which its student continues

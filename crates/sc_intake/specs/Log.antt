@@ -22,6 +22,10 @@ rejection_of fields = if length fields == 2 then (do
 abbrev pub next_rejection : List Rejection → List (List ℕ) → Result Rejection Cause
 next_rejection earlier fields = rejection_of fields
 
--- the rejections of a log, which has no header: they begin at row 1
+-- the rejections that records read as, after earlier ones: a log has no header, and so they begin at row 1
+abbrev pub log_after : List Rejection → List (List (List ℕ)) → Result (List Rejection) IntakeFault
+log_after earlier records = rows_after 1 Log next_rejection earlier records
+
+-- the rejections of a log
 abbrev pub log_in : List ℕ → Result (List Rejection) IntakeFault
-log_in text = records_in Log text >>= rows_after 1 Log next_rejection []
+log_in text = records_in Log text >>= log_after []

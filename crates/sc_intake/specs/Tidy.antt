@@ -1,11 +1,13 @@
 -- Rows of tidy texts, which are read with no look for their fields. Only the crate's own functions and their proofs need this.
 use Rattle.std.specs.Prelude.{◌≡◌, ℕ, ◌+◌, false, List, [], ◌∷◌, ◌++◌, length, Option, None, Some, Result, Ok}
 use Rattle.std.specs.List.{list_any}
+use Rattle.sc_papers.specs.declared.rejection.Rejection.{Rejection}
 use Rattle.sc_intake.specs.Blanks.{trimmed}
 use Rattle.sc_intake.specs.Fault.{◌>>=◌}
 use Rattle.sc_intake.specs.Field.{all_schools, as_school_or_none, number_of, number_or_none, numbers_in}
 use Rattle.sc_intake.specs.File.{text_at}
 use Rattle.sc_intake.specs.Lists.{choices_of}
+use Rattle.sc_intake.specs.Log.{rejection_of}
 use Rattle.sc_intake.specs.Plain.{after_line, fields_from, first_line, has_quote, is_mark}
 use Rattle.sc_intake.specs.Rows.{row_at}
 use Rattle.sc_intake.specs.declared.blanks.Blanks.TheVariants.{InLine}
@@ -60,6 +62,12 @@ pub record TakesList (width row : ℕ) (records left : List (List (List ℕ))) (
   pub takes : TakesRow choices_of width row records left list
   pub theirs : list.student ≡ student
   pub chosen : list.choices ≡ choices
+
+-- the first of these records is this rejection, and these are left
+pub record TakesRejection (records left : List (List (List ℕ))) (found : Rejection) : Type 0 where
+  pub fields : List (List ℕ)
+  pub next : records ≡ fields ∷ left
+  pub reads : rejection_of fields ≡ Ok found
 
 -- the first of these records, if there is one, is this row, and these are left
 abbrev pub IsNextRow : {R : Type 0} → (ℕ → List (List ℕ) → Result R Cause) → ℕ → ℕ → List (List (List ℕ)) → List (List (List ℕ)) → Option R → Type 0

@@ -7,7 +7,8 @@ ghost use Rattle.std.specs.Bool.{OnTrue};
 ghost use Rattle.sc_intake.specs.File.{is_marked};
 ghost use Rattle.sc_intake.specs.Plain.{cut, first_line};
 ghost use Rattle.sc_intake.specs.Roster.{student_of};
-ghost use Rattle.sc_intake.specs.Tidy.{AreSchools, EndsRow, IsSchoolOrNone, TakesField, TakesList, TakesNumber, TakesRow};
+ghost use Rattle.sc_intake.specs.Tidy.{AreSchools, EndsRow, IsSchoolOrNone, TakesField, TakesList, TakesNumber};
+ghost use Rattle.sc_intake.specs.Tidy.{TakesRejection, TakesRow};
 ghost use Rattle.sc_papers.specs.Market.{schools_of};
 ghost use Rattle.sc_papers.specs.Placed.{schools_at, AreOfSchools};
 
@@ -15,7 +16,9 @@ use crate::plain_records::ends_line;
 use crate::ranges;
 use crate::roster::RosterRow;
 use sc_decimal::number_at_front;
-use sc_papers::{FlatPapers, LONGEST_LIST, PlacedChoices, SchoolList, SchoolNo, StudentNo};
+use sc_papers::{
+    FlatPapers, LONGEST_LIST, PlacedChoices, Rejection, SchoolList, SchoolNo, StudentNo,
+};
 use std::alloc::Global;
 
 /// How many digits the longest number has.
@@ -176,6 +179,27 @@ pub(crate) fn take_placed<'a>(
         return None;
     };
     Some((student, rest))
+}
+
+/// The rejection that the first record of a text is, and the text from its line end on. `None` says nothing of the text:
+/// the record is not tidy, or no rejection.
+pub(crate) fn take_rejection(text: &[u8]) -> Option<(Rejection, &[u8])>
+    ensures rejection { IfSome result (λ taken. (by_lines : Bool) → TakesRejection (cut by_lines text.now)
+        (cut by_lines taken.1.now) taken.0) }
+    ensures unmarked { IfSome result (λ taken. is_marked taken.1.now ≡ false) }
+{
+    let (student, after) = take_number(text)?;
+    let (school, rest) = take_number(after_comma(after)?)?;
+    if !is_at_line_end(rest) {
+        return None;
+    }
+    let Ok(student) = ranges::student(student) else {
+        return None;
+    };
+    let Ok(school) = ranges::school(school) else {
+        return None;
+    };
+    Some((Rejection { student, school }, rest))
 }
 
 /// The row of the roster that the first record of a text is, under a header of so many fields, and the text from its line
