@@ -176,7 +176,7 @@ passes-refused {m} {r} {r'} {i} {s} refused away hand = record {
 }
 
 -- ranks and log stay
-moves-same : (m : Market) (r r' : RoundView) (away after : ℕ → Bool) → r'.ranks ≡ r.ranks → r'.log ≡ r.log → FitsBut m r' after → CountsProposals m r away r' after → Moves m r away r' after
+pub moves-same : (m : Market) (r r' : RoundView) (away after : ℕ → Bool) → r'.ranks ≡ r.ranks → r'.log ≡ r.log → FitsBut m r' after → CountsProposals m r away r' after → Moves m r away r' after
 moves-same m r r' away after same_ranks same_log fits counted = record {
   fits = fits;
   entered = λ i. ap (λ ranks. is_some (rank_of m ranks i)) same_ranks;

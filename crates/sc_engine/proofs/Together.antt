@@ -1,26 +1,31 @@
 -- Everybody proposes, several one after the other.
-use Rattle.std.proofs.Common.{◌≡◌, inl, inr, refl, ap, sym, subst, ◌∙◌, ℕ, ◌==◌, nat_eq, Bool, false, not, ◌&&◌, ◌||◌, List, [], ◌∷◌, ◌++◌, map, Option, None, Some, All, Contains, position, append_assoc, append-nil, arith}
+use Rattle.std.proofs.Common.{◌≡◌, inl, inr, refl, ap, sym, subst, ◌∙◌, ℕ, zero, suc, ◌+◌, ◌<◌, ◌==◌, nat_eq, Bool, false, not, ◌&&◌, ◌||◌, List, [], ◌∷◌, ◌++◌, length, get_or, set, map, Option, None, Some, All, Contains, position, slice_get, append_assoc, append-nil, arith, get_or-set_same, set-set}
 use Rattle.std.specs.List.{AllByRecursion, IsDistinct}
 use Rattle.std.specs.List.Sorted.{IsPermutation}
 use Rattle.std.proofs.lemmas.Bool.{cases_eq, eq-eqb, ne_eqb, false≢true, and_right}
 use Rattle.std.proofs.lemmas.Cmp.{nat_eq_equiv}
 use Rattle.std.specs.Option.{option_to_list}
+use Rattle.std.proofs.lemmas.Option.{same_Some}
 use Rattle.std.proofs.lemmas.List.{get_or-map, length-map, map-append}
 use Rattle.std.proofs.lemmas.List.Elements.{All-nil, All-append, All-contains, All-contains_itself, All-cons, All-tail, All-weaker, Contains-append_right}
 use Rattle.std.proofs.lemmas.List.Sorted.{IsPermutation-middle, list_any-IsPermutation}
 use Rattle.std.proofs.lemmas.Map.Keys.{IsDistinct-head, IsDistinct-tail, IsDistinct-push, IsDistinct-IsPermutation}
 use Rattle.sc_papers.specs.Chain.{and_one}
-use Rattle.sc_papers.specs.Market.{Market, student_at, students_of}
+use Rattle.sc_papers.specs.Market.{Market, choices_of, student_at, students_of}
+use Rattle.sc_papers.specs.declared.proposal.Proposal.{Proposal}
 use Rattle.sc_papers.specs.declared.rejection.Rejection.{Rejection}
 use Rattle.sc_papers.proofs.Counting.{contains-head}
 use Rattle.sc_papers.proofs.Hands.{student-there}
 use Rattle.sc_papers.proofs.Positions.{any-among}
 use Rattle.sc_papers.proofs.Rejections.{any-push}
-use Rattle.sc_engine.specs.RoundView.{RoundView, HaveEntered, IsAway, IsPutOut, Moves, OthersStay, Passes, Proposes, without, without_log}
-use Rattle.sc_engine.specs.Together.{all_of, among, Waits}
+use Rattle.sc_engine.specs.Proposals.{IsProposal}
+use Rattle.sc_engine.specs.RoundView.{RoundView, next_of, HaveEntered, IsAway, IsPutOut, Moves, OffersAt, OthersStay, Passes, Proposes, without, without_log}
+use Rattle.sc_engine.specs.Together.{all_of, among, moved_to, PassesUnnoted, Waits}
 use Rattle.sc_engine.proofs.Forgetting.{fits_but-without_log, midway-without_log}
+use Rattle.sc_engine.proofs.Moves.{passed-more}
 use Rattle.sc_engine.proofs.Proposals.{and-keeps}
-use Rattle.sc_engine.proofs.Steps.{continues-midway}
+use Rattle.sc_engine.proofs.Tables.{next-by, rank-at, rank-low}
+use Rattle.sc_engine.proofs.Steps.{continues-midway, entry_of, moves-same}
 
 -- a number that differs from each of a list is not among them
 none-among : (x : ℕ) (xs : List ℕ) → AllByRecursion (λ y. nat_eq x y ≡ false) xs → among xs x ≡ false
@@ -139,3 +144,48 @@ pub waits_noted_first : (m : Market) (r r' : RoundView) (hands : List ℕ) (e : 
 waits_noted_first m r r' hands e outs at found passes waits =
     subst (λ (i : ℕ). Waits m r' (i ∷ hands) outs) (sym (student-there m e.student at found))
     (waits_noted m r r' hands e outs waits (passes (among (all_of hands (e ∷ outs))) (put_out_away m r hands e outs waits)))
+
+-- what is written where it stands changes nothing
+set-own : {X : Type 0} (xs : List X) (k : ℕ) (d x : X) → k < length xs → get_or xs k d ≡ x → set xs k x ≡ xs
+set-own [] k d x low is = absurd (omega (arith, low))
+set-own (y ∷ ys) zero d x low is = ap (λ z. z ∷ ys) (sym is)
+set-own (y ∷ ys) (suc k) d x low is = ap (λ zs. y ∷ zs) (set-own ys k d x (omega (arith, low)) is)
+
+-- no choice is passed yet
+pub passes-none : (m : Market) (r : RoundView) (away : ℕ → Bool) (i : ℕ) → IsAway m r away i → PassesUnnoted m r away r i
+passes-none m r away i hand = record {
+  noted = r;
+  passes = record { moves = moves-same m r r away away refl refl hand.fits refl; others = λ e apart put. put };
+  unnoted = refl;
+}
+
+pub passes-start : (m : Market) (r : RoundView) (away : ℕ → Bool) (i at rank : ℕ) → IsAway m r away i → get_or r.ranks at None ≡ Some rank → PassesUnnoted m r away (moved_to r at rank) i
+passes-start m r away i at rank hand stood =
+    subst (λ (ranks : List (Option ℕ)). PassesUnnoted m r away (record r { ranks = ranks }) i) (sym (set-own r.ranks at None (Some rank) (rank-low r.ranks at rank stood) stood)) (passes-none m r away i hand)
+
+-- one more school refuses
+pub passes-on : (m : Market) (r : RoundView) (away : ℕ → Bool) (i at rank : ℕ) (made : Proposal) → IsAway m r away i → position (nat_eq i) (students_of m) ≡ Some at → at < length r.ranks
+    → IsProposal m i (slice_get (choices_of m i) rank) (Some made) → OffersAt r.rolls r.rolls made.position made.key (Some made.key)
+    → PassesUnnoted m r away (moved_to r at rank) i → PassesUnnoted m r away (moved_to r at (rank + 1)) i
+passes-on m r away i at rank made hand found low is offered before =
+    let noted : RoundView = before.noted in
+    let ranks : set r.ranks at (Some rank) ≡ noted.ranks = ap (λ (v : RoundView). v.ranks) before.unnoted in
+    let rolls : r.rolls ≡ noted.rolls = ap (λ (v : RoundView). v.rolls) before.unnoted in
+    let here : get_or noted.ranks at None ≡ Some rank = ap (λ l. get_or l at None) (sym ranks) ∙ get_or-set_same r.ranks at (Some rank) None low in
+    let next : slice_get (choices_of m i) rank ≡ next_of m noted.ranks i = sym (next-by m noted.ranks i rank (rank-at m noted.ranks i at found ∙ here)) in
+    let more : RoundView = record { ranks = set noted.ranks at (Some (rank + 1)); rolls = noted.rolls; log = noted.log ++ entry_of made.key.student made.school ∷ []; proposals = noted.proposals + 1 } in
+    let same : set r.ranks at (Some (rank + 1)) ≡ more.ranks = sym (set-set r.ranks at (Some rank) (Some (rank + 1))) ∙ ap (λ l. set l at (Some (rank + 1))) ranks in
+    record {
+      noted = more;
+      passes = (passed-more m r noted more away i at made hand before.passes (subst (λ o. IsProposal m i o (Some made)) next is) (subst (λ l. OffersAt l l made.position made.key (Some made.key)) rolls offered) found refl refl
+          (λ k stood. ap (λ n. set noted.ranks at (Some (n + 1))) (same_Some rank k (sym here ∙ stood))) refl).0;
+      unnoted = λ t. record { ranks = same t; rolls = rolls t; log = r.log; proposals = r.proposals };
+    }
+
+-- whoever passes on still waits, also where no rejection is noted
+pub waits_passed : (m : Market) (r r' : RoundView) (i : ℕ) (hands : List ℕ) (outs : List Rejection) → Waits m r (i ∷ hands) outs → PassesUnnoted m (without_log r) (among (all_of (i ∷ hands) outs)) r' i → Waits m r' (i ∷ hands) outs
+waits_passed m r r' i hands outs waits passed =
+    let forgotten = waits_forgotten m r (i ∷ hands) outs waits in
+    let noted : Waits m passed.noted (i ∷ hands) outs = waits_moved passed.noted (i ∷ hands) outs forgotten passed.passes.moves waits.differ
+    (stay-put i hands outs passed.passes.others (first-absent i (all_of hands outs) waits.differ) forgotten.put_out) in
+    subst (λ (v : RoundView). Waits m v (i ∷ hands) outs) (sym passed.unnoted) (waits_forgotten m passed.noted (i ∷ hands) outs noted)

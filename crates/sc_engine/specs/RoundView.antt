@@ -126,6 +126,11 @@ pub record IsAway (m : Market) (r : RoundView) (away : ℕ → Bool) (i : ℕ) :
 abbrev pub IsSomeAway : Market → RoundView → ℕ → Type 0
 IsSomeAway m r i = (away : ℕ → Bool) × IsAway m r away i
 
+-- so is the student at a position of the order of entry
+pub record IsAwayAt (m : Market) (r : RoundView) (at : ℕ) : Type 0 where
+  pub within : at < length m.students
+  pub away : IsSomeAway m r (student_at m at)
+
 -- the school at which a student stands would refuse them at once
 pub record IsPutOut (m : Market) (r : RoundView) (entry : Rejection) : Type 0 where
   pub stands : next_of m r.ranks entry.student ≡ Some entry.school

@@ -1,9 +1,9 @@
 -- Rounds that everybody has entered, while some are yet to propose.
-use Rattle.std.specs.Prelude.{◌≡◌, ℕ, Bool, List, ◌∷◌, ◌++◌, nat_eq, map}
+use Rattle.std.specs.Prelude.{◌≡◌, ℕ, Bool, List, ◌∷◌, ◌++◌, Some, nat_eq, map, slice_set}
 use Rattle.std.specs.List.{All, list_any, IsDistinct}
 use Rattle.sc_papers.specs.Market.{Market, students_of}
 use Rattle.sc_papers.specs.declared.rejection.Rejection.{Rejection}
-use Rattle.sc_engine.specs.RoundView.{RoundView, FitsBut, IsPutOut, Midway, has_entered}
+use Rattle.sc_engine.specs.RoundView.{RoundView, FitsBut, IsPutOut, Midway, Passes, has_entered}
 use Rattle.sc_engine.specs.declared.round.chains.PutOut.{PutOut}
 
 -- the rejections of those who have been put out
@@ -31,3 +31,13 @@ pub record Waits (m : Market) (r : RoundView) (hands : List ℕ) (outs : List Re
 -- this student waits, and perhaps others do
 abbrev pub SomeWait : Market → RoundView → ℕ → Type 0
 SomeWait m r i = (hands : List ℕ) × (outs : List Rejection) × Waits m r (i ∷ hands) outs
+
+-- whoever stands at a position stands at a rank
+abbrev pub moved_to : RoundView → ℕ → ℕ → RoundView
+moved_to r at rank = record r { ranks = slice_set r.ranks at (Some rank) }
+
+-- a student who is away moves on past choices, and none of the rejections is noted
+pub record PassesUnnoted (m : Market) (old : RoundView) (away : ℕ → Bool) (new : RoundView) (i : ℕ) : Type 0 where
+  pub noted : RoundView
+  pub passes : Passes m old away noted i
+  pub unnoted : new ≡ record noted { log = old.log; proposals = old.proposals }

@@ -70,7 +70,7 @@ fn clear_at(ranks: &mut Vec<Option<u8>>, positions: &[usize])
 }
 
 /// The rank at a position, none past the end.
-fn rank_or_none(ranks: &[Option<u8>], at: usize) -> Option<u8>
+pub(crate) fn rank_or_none(ranks: &[Option<u8>], at: usize) -> Option<u8>
     ensures { result ≡ slice_index_or ranks.now at None }
 {
     match ranks.get(at) {
@@ -103,7 +103,7 @@ fn clear_noted(ranks: &mut Vec<Option<u8>>, noted: &[usize], is_noting: bool)
 }
 
 impl RankTable {
-    ghost use Rattle.std.specs.Prelude.{[], remove, replicate};
+    ghost use Rattle.std.specs.Prelude.{[], is_some, remove, replicate, true};
 
     /// Nobody stands anywhere. Memory is taken for so many students. The only error is want of memory.
     pub(crate) fn with_room(alloc: Global, students: usize) -> Result<Self, AllocError>
@@ -166,6 +166,14 @@ impl RankTable {
         if let Some(Some(rank)) = self.ranks.get(at).copied() {
             self.ranks[at] = Some(rank + 1);
         }
+    }
+
+    /// Makes the student at the position, who stands somewhere, stand at a rank. It takes no memory.
+    pub(crate) fn move_to(&mut self, at: usize, rank: u8)
+        requires { is_some (slice_index_or self.old at None) ≡ true }
+        ensures { self.new ≡ slice_set self.old at (Some rank) }
+    {
+        self.ranks[at] = Some(rank);
     }
 
     /// Makes nobody stand at these positions any more. It takes no memory.

@@ -4,7 +4,7 @@ ghost use Rattle.std.specs.Prelude.{◌≡◌, ℕ, ◌+◌, ◌^◌, ◌<◌, B
 ghost use Rattle.std.specs.Option.{option_map};
 ghost use Rattle.sc_papers.specs.Market.{student_at, students_of};
 ghost use Rattle.sc_engine.specs.Proposals.{IsProposal};
-ghost use Rattle.sc_engine.specs.RoundView.{next_of, choices_left, FitsBut, IsAway, IsPutOut, IsSomeAway, IsYetToEnter, Enters, Moves, Passes, Proposes, nobody, only};
+ghost use Rattle.sc_engine.specs.RoundView.{next_of, choices_left, FitsBut, IsAway, IsAwayAt, IsPutOut, IsSomeAway, IsYetToEnter, Enters, Moves, Passes, Proposes, nobody, only};
 
 use super::Round;
 use super::ranks::{position_near, proposal_of};
@@ -52,8 +52,7 @@ impl<R: Roll> Round<R> {
         papers: &FlatPapers,
         proposer: usize,
     ) -> Result<Option<Proposal>, AllocError>
-        requires within { proposer < length papers.now.students }
-        requires away { IsSomeAway papers.now (view_of R.keys R.seats self.old) (student_at papers.now proposer) }
+        requires { IsAwayAt papers.now (view_of R.keys R.seats self.old) proposer }
         ensures passed { OnOk result ((away : ℕ → Bool)
             → IsAway papers.now (view_of R.keys R.seats self.old) away (student_at papers.now proposer)
             → Passes papers.now (view_of R.keys R.seats self.old) away (view_of R.keys R.seats self.new)
@@ -72,23 +71,22 @@ impl<R: Roll> Round<R> {
         Ok(None)
     }
 
-    /// The student at the position, who is away, proposes, from their next choice on, until a school does not refuse them
-    /// at once. Whoever is put out there is away from then on, and that is noted only when they go on.
-    pub(super) fn propose(
+    /// The student at the position, who is away, is offered a seat at the choice at which they stand, which this proposal is.
+    /// Whoever is put out there is away from then on, and that is noted only when they go on.
+    pub(super) fn offer_seat(
         &mut self,
         papers: &FlatPapers,
         proposer: usize,
+        proposal: &Proposal,
     ) -> Result<Option<PutOut>, AllocError>
-        requires within { proposer < length papers.now.students }
         requires away { IsSomeAway papers.now (view_of R.keys R.seats self.old) (student_at papers.now proposer) }
+        requires made { IsProposal papers.now (student_at papers.now proposer)
+            (next_of papers.now self.old.ranks (student_at papers.now proposer)) (Some proposal.now) }
         ensures { IfOk result (λ out. (away : ℕ → Bool)
             → IsAway papers.now (view_of R.keys R.seats self.old) away (student_at papers.now proposer)
             → Proposes papers.now (view_of R.keys R.seats self.old) away (view_of R.keys R.seats self.new)
             (student_at papers.now proposer) (option_map (λ o. o.entry) out)) }
     {
-        let Some(proposal) = self.next_open(papers, proposer)? else {
-            return Ok(None);
-        };
         let offered = HeldKey::of(proposal.key, proposer);
         let Some(out) = offer_to(&mut self.rolls, proposal.position, offered)? else {
             self.proposals += 1;
@@ -99,6 +97,25 @@ impl<R: Roll> Round<R> {
         let entry = Rejection { student, school };
         let guess = out.guess();
         Ok(Some(PutOut { entry, guess }))
+    }
+
+    /// The student at the position, who is away, proposes, from their next choice on, until a school does not refuse them
+    /// at once. Whoever is put out there is away from then on, and that is noted only when they go on.
+    fn propose(
+        &mut self,
+        papers: &FlatPapers,
+        proposer: usize,
+    ) -> Result<Option<PutOut>, AllocError>
+        requires { IsAwayAt papers.now (view_of R.keys R.seats self.old) proposer }
+        ensures { IfOk result (λ out. (away : ℕ → Bool)
+            → IsAway papers.now (view_of R.keys R.seats self.old) away (student_at papers.now proposer)
+            → Proposes papers.now (view_of R.keys R.seats self.old) away (view_of R.keys R.seats self.new)
+            (student_at papers.now proposer) (option_map (λ o. o.entry) out)) }
+    {
+        let Some(proposal) = self.next_open(papers, proposer)? else {
+            return Ok(None);
+        };
+        self.offer_seat(papers, proposer, &proposal)
     }
 
     /// Notes that a student has been put out, who moves on to the next choice. The answer is where they stand in the order of

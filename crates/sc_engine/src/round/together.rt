@@ -1,17 +1,20 @@
 //! Rounds that everybody enters at once, several proposing one after the other.
 
-ghost use Rattle.std.specs.Prelude.{◌≡◌, ℕ, ◌<◌, ◌≤◌, ◌∷◌, ◌++◌, [], false, All, List, length, true, OnErr, OnOk};
-ghost use Rattle.sc_papers.specs.Market.{student_at, students_of};
+ghost use Rattle.std.specs.Prelude.{◌≡◌, ℕ, Bool, ◌<◌, ◌≤◌, ◌∷◌, ◌++◌, [], false, All, List, None, Some, length, slice_get, slice_index_or, true, OnErr, OnOk};
+ghost use Rattle.sc_papers.specs.Market.{choices_of, student_at, students_of};
 ghost use Rattle.sc_papers.specs.declared.rejection.Rejection.{Rejection as Entry};
 ghost use Rattle.sc_engine.specs.Applicants.{numbers_of, AreEverybody, IsWithin};
 ghost use Rattle.sc_engine.specs.Fresh.{IsFresh};
-ghost use Rattle.sc_engine.specs.RoundView.{HaveEntered, choices_left};
-ghost use Rattle.sc_engine.specs.Together.{entries_of, SomeWait, Waits};
+ghost use Rattle.sc_engine.specs.Proposals.{IsProposal};
+ghost use Rattle.sc_engine.specs.RoundView.{next_of, choices_left, HaveEntered, IsAway, IsAwayAt};
+ghost use Rattle.sc_engine.specs.Together.{entries_of, moved_to, PassesUnnoted, SomeWait, Waits};
 
 use super::Round;
 use super::chains::PutOut;
+use super::rolls::is_refused;
 use crate::applicants::Applicant;
-use sc_papers::{ClassedChoice, FlatPapers};
+use crate::rank_table::rank_or_none;
+use sc_papers::{ClassedChoice, FlatPapers, Proposal};
 use sc_seats::Roll;
 use std::alloc::AllocError;
 use std::collections::VecDeque;
@@ -81,6 +84,46 @@ fn ask_for_put_out(
 impl<R: Roll> Round<R> {
     ghost use Rattle.sc_engine.specs.Round.{view_of, is_spent};
 
+    /// The rank of the first choice of the student at the position, who is away, from the rank at which they stand on, whose
+    /// school does not refuse them at once, and their proposal there, if there is one. No roll changes.
+    fn first_open(&self, papers: &FlatPapers, proposer: usize, from: u8) -> (u8, Option<Proposal>)
+        requires away { IsAwayAt papers.now (view_of R.keys R.seats self.now) proposer }
+        requires stands { slice_index_or self.now.ranks proposer None ≡ Some from }
+        ensures passed { (away : ℕ → Bool)
+            → IsAway papers.now (view_of R.keys R.seats self.now) away (student_at papers.now proposer)
+            → PassesUnnoted papers.now (view_of R.keys R.seats self.now) away
+            (moved_to (view_of R.keys R.seats self.now) proposer result.0) (student_at papers.now proposer) }
+        ensures next { IsProposal papers.now (student_at papers.now proposer)
+            (slice_get (choices_of papers.now (student_at papers.now proposer)) result.0) result.1 }
+    {
+        let mut rank = from;
+        while let Some(proposal) = papers.proposal(proposer, usize::from(rank)) {
+            if !is_refused(&self.rolls, proposal.position, &proposal.key) {
+                return (rank, Some(proposal));
+            }
+            rank += 1;
+        }
+        (rank, None)
+    }
+
+    /// The student at the position, who is away, moves on from their next choice to the first whose school does not refuse
+    /// them at once, and the answer is their proposal there, if there is one. Nobody asks for the rejections on the way, and
+    /// so none is noted.
+    fn pass_on(&mut self, papers: &FlatPapers, proposer: usize) -> Option<Proposal>
+        requires { IsAwayAt papers.now (view_of R.keys R.seats self.old) proposer }
+        ensures passed { (away : ℕ → Bool)
+            → IsAway papers.now (view_of R.keys R.seats self.old) away (student_at papers.now proposer)
+            → PassesUnnoted papers.now (view_of R.keys R.seats self.old) away (view_of R.keys R.seats self.new)
+            (student_at papers.now proposer) }
+        ensures next { IsProposal papers.now (student_at papers.now proposer)
+            (next_of papers.now self.new.ranks (student_at papers.now proposer)) result }
+    {
+        let from = rank_or_none(self.ranks.as_slice(), proposer)?;
+        let (rank, proposal) = self.first_open(papers, proposer, from);
+        self.ranks.move_to(proposer, rank);
+        proposal
+    }
+
     /// The student at the position, who waits, proposes, and whoever is put out waits from then on. Nobody asks for the
     /// rejections, and so they are forgotten.
     fn propose_on(
@@ -97,10 +140,13 @@ impl<R: Roll> Round<R> {
             → Waits papers.now (view_of R.keys R.seats self.new) hands (outs ++ entries_of waiting.new.items)) }
         ensures left { OnOk result (choices_left papers.now self.new.ranks ≤ choices_left papers.now self.old.ranks) }
     {
-        if let Some(out) = self.propose(papers, proposer)? {
+        self.forget_log();
+        let Some(proposal) = self.pass_on(papers, proposer) else {
+            return Ok(());
+        };
+        if let Some(out) = self.offer_seat(papers, proposer, &proposal)? {
             waiting.push_back(out)?;
         }
-        self.forget_log();
         Ok(())
     }
 
