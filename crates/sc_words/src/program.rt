@@ -1,7 +1,7 @@
 //! The command line, as `clap` is told of it.
 
 ghost use Rattle.std.specs.Prelude.{◌≡◌, IfOk, codes};
-ghost use Rattle.clap.specs.Words.{app_of};
+ghost use Rattle.clap.specs.Words.{app_of, with_subcommand, Shape};
 ghost use Rattle.sc_words.specs.CommandLine.{IsCommand, IsOption, optional_option, required_option, subcommand};
 ghost use Rattle.sc_words.specs.CommandLine.{check_options, opening_options, match_options, run_options};
 ghost use Rattle.sc_words.specs.CommandLine.{audit_options, replay_options, export_options, summary_options, explain_options, admissions_options, changes_options, command_line};
@@ -186,19 +186,31 @@ fn program_alone<'a>(alloc: Global) -> Result<Command<'a>, AllocError>
     )
 }
 
+/// The program with one more subcommand. The only error is want of memory, for the subcommand or for its place. Here alone is
+/// a program freed where a subcommand is not made, so that this is proved once and not for each of them.
+fn with_command<'a>(
+    program: Command<'a>,
+    made: Result<Command<'a>, AllocError>,
+) -> Result<Command<'a>, AllocError>
+    ensures { (shape : Shape) → IfOk made.entry (λ c. IsCommand c shape)
+        → IfOk result (λ new. app_of new ≡ with_subcommand (app_of program.entry) shape) }
+{
+    program.subcommand(made?)
+}
+
 /// The program's command line.
 pub(crate) fn program<'a>(alloc: Global) -> Result<Command<'a>, AllocError>
     ensures { IfOk result (λ c. app_of c ≡ command_line) }
 {
-    program_alone(alloc)?
-        .subcommand(check_command(alloc)?)?
-        .subcommand(match_command(alloc)?)?
-        .subcommand(run_command(alloc)?)?
-        .subcommand(audit_command(alloc)?)?
-        .subcommand(replay_command(alloc)?)?
-        .subcommand(export_command(alloc)?)?
-        .subcommand(summary_command(alloc)?)?
-        .subcommand(explain_command(alloc)?)?
-        .subcommand(admissions_command(alloc)?)?
-        .subcommand(changes_command(alloc)?)
+    let program = program_alone(alloc)?;
+    let program = with_command(program, check_command(alloc))?;
+    let program = with_command(program, match_command(alloc))?;
+    let program = with_command(program, run_command(alloc))?;
+    let program = with_command(program, audit_command(alloc))?;
+    let program = with_command(program, replay_command(alloc))?;
+    let program = with_command(program, export_command(alloc))?;
+    let program = with_command(program, summary_command(alloc))?;
+    let program = with_command(program, explain_command(alloc))?;
+    let program = with_command(program, admissions_command(alloc))?;
+    with_command(program, changes_command(alloc))
 }

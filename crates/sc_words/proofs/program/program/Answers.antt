@@ -1,16 +1,20 @@
+use Rattle.std.proofs.Common.{◌∙◌, ap, codes}
 use Rattle.std.proofs.lemmas.Result.{IfOk-weaker}
-use Rattle.sc_words.proofs.Told.{with_command}
+use Rattle.clap.specs.Words.{App, with_subcommand}
+use Rattle.sc_words.specs.CommandLine.{subcommand}
+use Rattle.sc_words.specs.CommandLine.{check_options, match_options, run_options, audit_options, replay_options, export_options, summary_options, explain_options, admissions_options, changes_options}
 use Rattle.sc_words.proofs.program.program.Goals as goal
 
 pub returns : goal.returns
 returns c =
-    let checking = with_command _ _ c.in_ok-subcommand.field-0 _ _ c.in_ok-subcommand.ensures c.in_ok-check_command.ensures c.in_ok-program_alone.ensures.0 in
-    let matching = with_command _ _ c.in_ok-subcommand-2.field-0 _ _ c.in_ok-subcommand-2.ensures c.in_ok-match_command.ensures checking in
-    let run = with_command _ _ c.in_ok-subcommand-3.field-0 _ _ c.in_ok-subcommand-3.ensures c.in_ok-run_command.ensures matching in
-    let audit = with_command _ _ c.in_ok-subcommand-4.field-0 _ _ c.in_ok-subcommand-4.ensures c.in_ok-audit_command.ensures run in
-    let replay = with_command _ _ c.in_ok-subcommand-5.field-0 _ _ c.in_ok-subcommand-5.ensures c.in_ok-replay_command.ensures audit in
-    let export = with_command _ _ c.in_ok-subcommand-6.field-0 _ _ c.in_ok-subcommand-6.ensures c.in_ok-export_command.ensures replay in
-    let summary = with_command _ _ c.in_ok-subcommand-7.field-0 _ _ c.in_ok-subcommand-7.ensures c.in_ok-summary_command.ensures export in
-    let explain = with_command _ _ c.in_ok-subcommand-8.field-0 _ _ c.in_ok-subcommand-8.ensures c.in_ok-explain_command.ensures summary in
-    let admissions = with_command _ _ c.in_ok-subcommand-9.field-0 _ _ c.in_ok-subcommand-9.ensures c.in_ok-admissions_command.ensures explain in
-    IfOk-weaker c.subcommand-10.result _ _ (λ r adds. with_command _ _ r _ _ adds c.in_ok-changes_command.ensures admissions) c.subcommand-10.ensures
+    let program = c.in_ok-program.ensures.0 in
+    let check-told = c.in_ok-program-2.ensures (subcommand (codes "check") check_options) c.check_command.ensures ∙ ap (λ (a : App). with_subcommand a (subcommand (codes "check") check_options)) program in
+    let match-told = c.in_ok-program-3.ensures (subcommand (codes "match") match_options) c.match_command.ensures ∙ ap (λ (a : App). with_subcommand a (subcommand (codes "match") match_options)) check-told in
+    let run-told = c.in_ok-program-4.ensures (subcommand (codes "run") run_options) c.run_command.ensures ∙ ap (λ (a : App). with_subcommand a (subcommand (codes "run") run_options)) match-told in
+    let audit-told = c.in_ok-program-5.ensures (subcommand (codes "audit") audit_options) c.audit_command.ensures ∙ ap (λ (a : App). with_subcommand a (subcommand (codes "audit") audit_options)) run-told in
+    let replay-told = c.in_ok-program-6.ensures (subcommand (codes "replay") replay_options) c.replay_command.ensures ∙ ap (λ (a : App). with_subcommand a (subcommand (codes "replay") replay_options)) audit-told in
+    let export-told = c.in_ok-program-7.ensures (subcommand (codes "export") export_options) c.export_command.ensures ∙ ap (λ (a : App). with_subcommand a (subcommand (codes "export") export_options)) replay-told in
+    let summary-told = c.in_ok-program-8.ensures (subcommand (codes "summary") summary_options) c.summary_command.ensures ∙ ap (λ (a : App). with_subcommand a (subcommand (codes "summary") summary_options)) export-told in
+    let explain-told = c.in_ok-program-9.ensures (subcommand (codes "explain") explain_options) c.explain_command.ensures ∙ ap (λ (a : App). with_subcommand a (subcommand (codes "explain") explain_options)) summary-told in
+    let admissions-told = c.in_ok-program-10.ensures (subcommand (codes "admissions") admissions_options) c.admissions_command.ensures ∙ ap (λ (a : App). with_subcommand a (subcommand (codes "admissions") admissions_options)) explain-told in
+    IfOk-weaker c.with_command-10.result _ _ (λ r adds. adds ∙ ap (λ (a : App). with_subcommand a (subcommand (codes "changes") changes_options)) admissions-told) (c.with_command-10.ensures (subcommand (codes "changes") changes_options) c.changes_command.ensures)
