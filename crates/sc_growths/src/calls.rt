@@ -1,6 +1,7 @@
 //! The calls over readers and writers. The writers' room is made beforehand: a growth of theirs that is
 //! refused would be a failed write.
 
+use crate::comparing::same;
 use crate::market::{
     ADMISSIONS, ADMISSIONS_OF_20, BUNDLE, CHANGES, EXPLANATION, EXPLANATION_OF_2, EXPORTED, FAULTS,
     FAULTY_LISTS, JOURNAL, LISTS, LOG, REPORT, ROSTER, SCHOOLS, SCRIPT, SUMMARY, WHOLE_RUN, seed,
@@ -46,7 +47,7 @@ fn one_text(
     let Some(fault) = fault else {
         return written(alloc, out);
     };
-    assert_eq!(rt; fault, RunFault::OutOfMemory);
+    same(rt, &fault, &RunFault::OutOfMemory);
     assert!(rt; out.inner().is_empty());
     Err(AllocError)
 }
@@ -77,7 +78,7 @@ fn run_left(
         assert!(rt; journal == JOURNAL.as_bytes());
         return written(alloc, out);
     };
-    assert_eq!(rt; fault, RunFault::OutOfMemory);
+    same(rt, &fault, &RunFault::OutOfMemory);
     assert!(rt; WHOLE_RUN.as_bytes().starts_with(output));
     assert!(rt; JOURNAL.as_bytes().starts_with(journal));
     // The last reply, the one of record 5, stands on line 2.
@@ -193,7 +194,7 @@ pub fn exported(rt: &impl Abort, alloc: Global) -> Result<String, AllocError> {
     match export_files(alloc, &seed(rt), &mut opening(), &mut journal) {
         Ok(exported) => files_text(alloc, &exported.files),
         Err(fault) => {
-            assert_eq!(rt; fault, RunFault::OutOfMemory);
+            same(rt, &fault, &RunFault::OutOfMemory);
             Err(AllocError)
         }
     }
@@ -303,7 +304,7 @@ pub fn ran_bundle(rt: &impl Abort, alloc: Global) -> Result<String, AllocError> 
     match run_bundle(alloc, &mut Watched::new(BUNDLE), &mut out) {
         Ending::Done => written(alloc, &out),
         ending => {
-            assert_eq!(rt; ending, Ending::Fault(RunFault::OutOfMemory));
+            same(rt, &ending, &Ending::Fault(RunFault::OutOfMemory));
             assert!(rt; WHOLE_RUN.as_bytes().starts_with(out.inner().as_slice()));
             Err(AllocError)
         }

@@ -9,6 +9,8 @@
 #[cfg(test)]
 mod calls;
 #[cfg(test)]
+mod comparing;
+#[cfg(test)]
 mod libraries;
 #[cfg(test)]
 mod market;

@@ -1,5 +1,6 @@
 //! The calls of the libraries.
 
+use crate::comparing::same;
 use crate::market::{JOURNAL, LISTS, LOG, ROSTER, SCHOOLS, SCRIPT, seed};
 use crate::twice::{Call, expect, given};
 use sc_audit::{audit, check_stable};
@@ -21,8 +22,8 @@ fn last_standing(alloc: Global, clearing: Clearing) -> Result<String, AllocError
 
 /// Opens papers that a refusal gave back.
 fn open_again(rt: &impl Abort, alloc: Global, papers: Papers) -> Result<String, AllocError> {
-    assert_eq!(rt; papers.students_len(), 2);
-    assert_eq!(rt; papers.schools_len(), 2);
+    same(rt, &papers.students_len(), &2);
+    same(rt, &papers.schools_len(), &2);
     match Clearing::open(alloc, papers) {
         Ok(clearing) => last_standing(alloc, clearing),
         Err(_refused) => Err(AllocError),
@@ -71,9 +72,9 @@ fn amend_again(
     clearing: &mut Clearing,
     record: &str,
 ) -> Result<(), AllocError> {
-    assert_eq!(rt; clearing.proposals_last(), 2);
+    same(rt, &clearing.proposals_last(), &2);
     let kept = standing(alloc, clearing)?;
-    assert_eq!(rt; kept.as_str(), "1:10 2:20 |");
+    same(rt, &kept.as_str(), &"1:10 2:20 |");
     assert!(rt; clearing.amend(amendment(rt, alloc, record)) == Ok(()));
     Ok(())
 }
@@ -86,7 +87,7 @@ fn amend_once(
     record: &str,
 ) -> Result<String, AllocError> {
     if let Err(refusal) = clearing.amend(amendment(rt, alloc, record)) {
-        assert_eq!(rt; refusal, Refusal::OutOfMemory);
+        same(rt, &refusal, &Refusal::OutOfMemory);
         amend_again(rt, alloc, clearing, record)?;
     }
     standing(alloc, clearing)
@@ -128,8 +129,8 @@ fn withdraw(rt: HostRuntime) {
 /// no amendment was accepted yet.
 fn enter_unsettled(rt: &impl Abort, alloc: Global, unsettled: &mut Unsettled) {
     if let Err(refusal) = unsettled.amend(amendment(rt, alloc, ENTRY)) {
-        assert_eq!(rt; refusal, Refusal::OutOfMemory);
-        assert_eq!(rt; unsettled.accepted().get(), 0);
+        same(rt, &refusal, &Refusal::OutOfMemory);
+        same(rt, &unsettled.accepted().get(), &0);
         assert!(rt; unsettled.amend(amendment(rt, alloc, ENTRY)) == Ok(()));
     }
 }
@@ -139,7 +140,7 @@ fn settle(rt: &impl Abort, alloc: Global, unsettled: Unsettled) -> Result<String
     match unsettled.settle(alloc) {
         Ok(clearing) => last_standing(alloc, clearing),
         Err(refused) => {
-            assert_eq!(rt; refused.papers.students_len(), 3);
+            same(rt, &refused.papers.students_len(), &3);
             Err(AllocError)
         }
     }
@@ -152,7 +153,7 @@ pub fn amended_unsettled(rt: &impl Abort, alloc: Global) -> Result<String, Alloc
             settle(rt, alloc, unsettled)
         }
         Err(refused) => {
-            assert_eq!(rt; refused.papers.students_len(), 2);
+            same(rt, &refused.papers.students_len(), &2);
             Err(AllocError)
         }
     }
@@ -272,7 +273,7 @@ pub fn replayed(rt: &impl Abort, alloc: Global) -> Result<String, AllocError> {
     match replay(alloc, papers, JOURNAL.as_bytes()) {
         Ok((clearing, _tail)) => last_standing(alloc, clearing),
         Err(fault) => {
-            assert_eq!(rt; fault.cause, JournalCause::OutOfMemory);
+            same(rt, &fault.cause, &JournalCause::OutOfMemory);
             Err(AllocError)
         }
     }

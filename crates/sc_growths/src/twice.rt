@@ -1,5 +1,6 @@
 //! The harness: a call is tried, and tried again where memory was refused.
 
+use crate::comparing::same;
 use crate::{calls, libraries};
 use sc_intake::{Cause, IntakeFault};
 use sc_papers::{SchoolNo, StudentNo};
@@ -81,7 +82,7 @@ pub fn expect(rt: &impl Abort, alloc: Global, call: Call, want: &str) {
         Ok(left) => left,
         Err(_refused) => attempt(rt, alloc, call).expect(rt, "memory"),
     };
-    assert!(rt; left.as_str() == want, "{left}");
+    same(rt, &left.as_str(), &want);
 }
 
 /// What a reader gave; where it gave nothing, the cause is want of memory.
@@ -89,7 +90,7 @@ pub fn given<T>(rt: &impl Abort, read: Result<T, IntakeFault>) -> Result<T, Allo
     match read {
         Ok(given) => Ok(given),
         Err(fault) => {
-            assert_eq!(rt; fault.cause, Cause::OutOfMemory);
+            same(rt, &fault.cause, &Cause::OutOfMemory);
             Err(AllocError)
         }
     }

@@ -1,5 +1,6 @@
 //! Clearings after random lists of amendments: each stands, entry for entry of its log, as its papers do
 //! when they are settled from scratch.
+use crate::comparing::same;
 use crate::markets::{
     Dice, list_of, papers_of, random_families, random_schools, school_no, some_schools, student_no,
     zone,
@@ -124,7 +125,7 @@ fn has_the_same(clearing: &Clearing, settled: &Settled, position: usize) -> bool
 /// The clearing has the settling's log.
 fn has_the_log(rt: &impl Abort, clearing: &Clearing, settled: &Settled) {
     let log = clearing.log().expect(rt, "memory");
-    assert_eq!(rt; log.as_slice(), settled.log.as_slice());
+    same(rt, &log.as_slice(), &settled.log.as_slice());
     drop(log);
 }
 

@@ -1,5 +1,6 @@
 //! The auditor's verdicts beside those of the plain program: on the logs and the assignments of random
 //! markets, and on all that comes of a single change of one.
+use crate::comparing::same;
 use crate::markets::{
     Dice, Family, papers_of, plain_log, plain_students, random_families, random_schools, school_no,
     student_no,
@@ -114,7 +115,7 @@ fn judge_log(
     let entries = rejections(rt, alloc, log);
     let verdict = audit(alloc, papers, entries.as_slice()).expect(rt, "memory");
     drop(entries);
-    assert_eq!(rt; verdict, plain_verdict(rt, alloc, market, log));
+    same(rt, &verdict, &plain_verdict(rt, alloc, market, log));
 }
 
 /// The same for a changed log, which ends here.
@@ -177,7 +178,7 @@ fn judge_settled_log(
     settled: &Settled,
 ) {
     let verdict = audit(alloc, papers, settled.log.as_slice()).expect(rt, "memory");
-    assert_eq!(rt; verdict, Verdict::Certified);
+    same(rt, &verdict, &Verdict::Certified);
     let log = plain_log(rt, alloc, settled);
     judge_log_and_changes(rt, alloc, market, papers, &log);
     drop(log);
@@ -236,7 +237,7 @@ fn judge_assignment(
     let assignment = assignment_of(rt, alloc, pairs);
     let stability = check_stable(alloc, papers, &assignment).expect(rt, "memory");
     drop(assignment);
-    assert_eq!(rt; stability, plain_stability(rt, alloc, market, pairs));
+    same(rt, &stability, &plain_stability(rt, alloc, market, pairs));
 }
 
 /// Who has which school, in pairs.
@@ -318,7 +319,7 @@ fn judge_assignments(
     settled: &Settled,
 ) {
     let stability = check_stable(alloc, papers, &settled.assignment).expect(rt, "memory");
-    assert_eq!(rt; stability, Stability::Stable);
+    same(rt, &stability, &Stability::Stable);
     let pairs = settled_pairs(rt, alloc, market, settled);
     judge_other_schools(rt, alloc, market, papers, &pairs);
     drop(pairs);

@@ -8,6 +8,8 @@ mod amendments;
 #[cfg(test)]
 mod audits;
 #[cfg(test)]
+mod comparing;
+#[cfg(test)]
 mod desks;
 #[cfg(test)]
 mod markets;

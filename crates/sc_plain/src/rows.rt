@@ -1,3 +1,4 @@
+use crate::comparing::{same, same_in};
 use crate::plain::{Market, Matching, School, Student};
 use std::alloc::Global;
 use std::process::Abort;
@@ -48,11 +49,11 @@ fn expect_best(
     let mut found = 0_usize;
     for matching in stable {
         if market.is_best(matching, stable) {
-            assert_eq!(rt; matching.as_slice(), want, "{row}");
+            same_in(rt, &matching.as_slice(), &want, row);
             found = found.saturating_add(1);
         }
     }
-    assert_eq!(rt; found, 1, "{row}");
+    same_in(rt, &found, &1, row);
 }
 
 /// Among all matchings, the student-optimal one is the one wanted, and no other.
@@ -184,7 +185,7 @@ fn expect_settled(
 ) {
     assert!(rt; market.is_settled(rt, alloc, log), "{row}");
     let matching = market.matching_of(rt, alloc, log);
-    assert_eq!(rt; matching.as_slice(), want, "{row}");
+    same_in(rt, &matching.as_slice(), &want, row);
     drop(matching);
 }
 
@@ -218,7 +219,7 @@ fn expect_correction(
     };
     expect_optimal(rt, alloc, row, &market, want);
     expect_settled(rt, alloc, row, &market, log, want);
-    assert_eq!(rt; market.first_bad_entry(&OPENING_LOG), bad, "{row}");
+    same_in(rt, &market.first_bad_entry(&OPENING_LOG), &bad, row);
 }
 
 const OPENING_LOG: [(u32, u32); 3] = [(2, 10), (3, 20), (2, 20)];
@@ -253,7 +254,7 @@ fn logs_of_market_b(rt: HostRuntime) {
 
 /// The log's first bad entry is the one at this place.
 fn expect_bad_entry(rt: &impl Abort, market: &Market, log: &[(u32, u32)], want: Option<usize>) {
-    assert_eq!(rt; market.first_bad_entry(log), want);
+    same(rt, &market.first_bad_entry(log), &want);
 }
 
 /// The matching is stable, and there is a better one.
@@ -294,7 +295,7 @@ fn expect_verdict(
     matching: &[Option<u32>],
     want: bool,
 ) {
-    assert_eq!(rt; market.is_stable(matching), want, "{row}");
+    same_in(rt, &market.is_stable(matching), &want, row);
 }
 
 #[test]

@@ -6,6 +6,7 @@ mod notices;
 mod reports;
 mod scripts;
 
+use crate::comparing::same;
 use sc_program::perform;
 use sc_report::devices::{Ending, FailingWriter};
 use sc_words::Word;
@@ -100,9 +101,7 @@ fn ordered_after(
 /// The program wrote the report, or nothing of it, and then what is wanted.
 fn expect(rt: &impl Abort, told: io::Result<String>, report: &str, want: &str) {
     match told {
-        Ok(told) => {
-            assert!(rt; told.as_str().strip_prefix(report) == Some(want), "{told}");
-        }
+        Ok(told) => same(rt, &told.as_str().strip_prefix(report), &Some(want)),
         Err(error) => panic!(rt; "{error}"),
     }
 }

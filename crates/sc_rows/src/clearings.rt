@@ -3,6 +3,7 @@
 //!
 //! Each line of a script is a record and, after `=>`, what is wanted: the answer, how many proposals the
 //! last settling then made, and the standing that is left.
+use crate::comparing::same;
 use crate::given::{answered, expect_answered, expect_said, papers_of, school, student, wanted_of};
 use sc_markets::{
     FIVE_STUDENTS, Files, MARKET_A, MARKET_B, MARKET_B_CONTINUING, TWO_STUDENTS, amendment,
@@ -331,7 +332,7 @@ fn expect_rejected(rt: &impl Abort, log: &[Rejection]) {
         student: student(rt, 1),
         school: school(rt, 1),
     };
-    assert_eq!(rt; log, [rejected].as_slice());
+    same(rt, &log, &[rejected].as_slice());
 }
 
 fn expect_log(rt: &impl Abort, clearing: &Clearing) {

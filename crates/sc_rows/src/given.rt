@@ -1,6 +1,7 @@
 //! What the tests begin with: numbers, and the papers of a market after a script.
 ghost use Rattle.std.specs.Prelude.{◌≡◌};
 
+use crate::comparing::same_in;
 use sc_markets::{Files, amendment};
 use sc_papers::{Amendment, Papers, Refusal, SchoolNo, Stamped, StudentNo};
 use sc_repair::Clearing;
@@ -26,7 +27,7 @@ pub fn wanted_of<'a>(rt: &impl Abort, line: &'a str) -> (&'a str, &'a str) {
 
 /// What was said of the record is what is wanted.
 fn expect_same(rt: &impl Abort, record: &str, said: &str, want: &str) {
-    assert_eq!(rt; said, want, "{record}");
+    same_in(rt, &said, &want, record);
 }
 
 /// What there was memory to say of the record is what is wanted. It takes the text, so that those who ask hold none:
@@ -62,7 +63,7 @@ pub fn answered(
 ) -> Result<String, AllocError> {
     let checked = clearing.check(&stamped);
     let answered = clearing.amend(stamped);
-    assert!(rt; checked == answered, "{record}");
+    same_in(rt, &checked, &answered, record);
     answer_text(alloc, answered)
 }
 

@@ -7,6 +7,8 @@ mod audits;
 #[cfg(test)]
 mod clearings;
 #[cfg(test)]
+mod comparing;
+#[cfg(test)]
 mod desks;
 #[cfg(test)]
 mod districts;

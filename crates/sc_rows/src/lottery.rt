@@ -1,5 +1,6 @@
 //! The lottery: draws under known seeds, by the vectors of RFC 8439's cipher with a counter of 64 bits, and
 //! what is no seed and no student.
+use crate::comparing::same;
 use crate::given::{expect_said, student};
 use sc_lottery::{Draws, Seed, SeedError, StudentNumber, draw};
 use std::process::Abort;
@@ -40,7 +41,7 @@ fn draws_of_the_zero_seed(rt: HostRuntime) {
 fn the_first_byte_of_the_seed_counts_lowest(rt: HostRuntime) {
     let text = b"000102030405060708090a0b0c0d0e0f101112131415161718191a1b1c1d1e1f";
     let draw = draw(&seed(&rt, text), student(&rt, 1));
-    assert_eq!(rt; draw, 0x7703bd8d494adcb8);
+    same(&rt, &draw, &0x7703bd8d494adcb8);
 }
 
 #[test]
@@ -49,12 +50,12 @@ fn both_cases_of_letters_read_alike(rt: HostRuntime) {
     let upper = b"00112233445566778899AABBCCDDEEFF00112233445566778899AABBCCDDEEFF";
     let seeds = (seed(&rt, lower), seed(&rt, upper));
     assert!(rt; seeds.0 == seeds.1);
-    assert_eq!(rt; draw(&seeds.0, student(&rt, 1)), 0xec209e20502a894d);
+    same(&rt, &draw(&seeds.0, student(&rt, 1)), &0xec209e20502a894d);
 }
 
 /// The digits write no seed, by this fault.
 fn expect_fault(rt: &impl Abort, digits: &[u8], fault: SeedError) {
-    assert_eq!(rt; Seed::from_hex(digits), Err(fault));
+    same(rt, &Seed::from_hex(digits), &Err(fault));
 }
 
 #[test]
@@ -73,8 +74,8 @@ fn texts_that_are_no_seed(rt: HostRuntime) {
 #[test]
 fn numbers_of_students(rt: HostRuntime) {
     assert!(rt; StudentNumber::new(0).is_none());
-    assert_eq!(rt; student(&rt, 1).get(), 1);
-    assert_eq!(rt; student(&rt, 999_999_999).get(), 999_999_999);
+    same(&rt, &student(&rt, 1).get(), &1);
+    same(&rt, &student(&rt, 999_999_999).get(), &999_999_999);
     assert!(rt; StudentNumber::new(1_000_000_000).is_none());
 }
 

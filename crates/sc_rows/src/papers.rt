@@ -1,4 +1,5 @@
 //! Papers: what they hold, the keys, and what each amendment changes.
+use crate::comparing::same_in;
 use crate::given::{amend, amendment_of, papers_of, school, student};
 use sc_markets::{Files, MARKET_B, assignment};
 use sc_papers::{Assignment, FlatPapers, Key, Papers, Refusal, Seed, Student};
@@ -146,7 +147,7 @@ fn an_assignment_is_a_map(rt: HostRuntime) {
 fn expect_kept(rt: &impl Abort, alloc: Global, papers: &mut Papers, before: usize, record: &str) {
     assert!(rt; papers.students_len() == before);
     let again = amendment_of(rt, alloc, record);
-    assert!(rt; papers.apply(again) == Ok(()), "{record}");
+    same_in(rt, &papers.apply(again), &Ok(()), record);
 }
 
 /// Makes an amendment for which memory may be refused: if it is, the papers stay as they were, and the same

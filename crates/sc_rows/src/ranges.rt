@@ -1,4 +1,5 @@
 //! Number types and refusals, each with its text.
+use crate::comparing::same_in;
 use crate::given::{expect_said, school};
 use sc_papers::{Count, Refusal, SchoolNo, Seats, Stamp, Zone};
 use std::alloc::{AllocError, Global};
@@ -49,7 +50,7 @@ fn last_stamp_has_no_next(rt: HostRuntime) {
 }
 
 fn expect_code(rt: &impl Abort, alloc: Global, refusal: Refusal, code: u8, name: &str) {
-    assert!(rt; refusal.code() == code, "{name}");
+    same_in(rt, &refusal.code(), &code, name);
     expect_said(rt, name, refusal.to_string(alloc), name);
 }
 

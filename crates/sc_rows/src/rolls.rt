@@ -3,6 +3,7 @@ ghost use Rattle.std.specs.Prelude.{◌≡◌, ◌≤◌, [], ◌∷◌, ◌++�
 ghost use Rattle.std.specs.List.Sorted.{IsPermutation};
 ghost use Rattle.std.specs.Option.{option_to_list};
 
+use crate::comparing::same;
 use crate::given::student;
 use sc_papers::{Key, Seats, StudentNo};
 use sc_seats::{HeapRoll, HeldKey, Roll, SortedRoll};
@@ -22,7 +23,7 @@ fn seats(rt: &impl Abort, number: u32) -> Seats {
 }
 
 fn expect_same(rt: &impl Abort, key: Option<Key>, want: Option<&Key>) {
-    assert_eq!(rt; key.as_ref(), want);
+    same(rt, &key.as_ref(), &want);
 }
 
 /// Offers the key, and sees that the roll told beforehand whether it would be refused. Where a growth is refused the roll is as it was, and the key is offered again.
@@ -37,10 +38,10 @@ fn offer_again<R: Roll>(rt: &impl Abort, roll: &mut R, key: &Key) -> Result<Opti
     let worst = roll.worst();
     let refused = roll.refuses(key);
     if let Ok(out) = roll.offer(*key) {
-        assert_eq!(rt; out == Some(*key), refused);
+        same(rt, &(out == Some(*key)), &refused);
         return Ok(out);
     }
-    assert_eq!(rt; roll.len(), held);
+    same(rt, &roll.len(), &held);
     expect_same(rt, roll.worst(), worst.as_ref());
     let out = roll.offer(*key)?;
     Ok(out)
@@ -86,9 +87,9 @@ fn expect_out<R: Roll>(
 
 /// A roll's copy holds so many, and the same worst, with as many seats.
 fn expect_copied<R: Roll>(rt: &impl Abort, roll: &R, copy: &R, held: usize, worst: Option<&Key>) {
-    assert_eq!(rt; copy.len(), held);
+    same(rt, &copy.len(), &held);
     expect_same(rt, copy.worst(), worst);
-    assert_eq!(rt; copy.capacity(), roll.capacity());
+    same(rt, &copy.capacity(), &roll.capacity());
 }
 
 /// An offer, who is put out for it, and who is the worst of those held then.
@@ -178,12 +179,12 @@ fn few_seats<R: Roll>(rt: &impl Abort, alloc: Global) -> Result<(), AllocError> 
 /// A roll that is renewed holds nobody, and has the seats that it is given.
 fn renewed<R: Roll>(rt: &impl Abort, alloc: Global, roll: &mut R) -> Result<(), AllocError> {
     roll.renew(seats(rt, 2));
-    assert_eq!(rt; roll.len(), 0);
-    assert_eq!(rt; roll.capacity(), seats(rt, 2));
+    same(rt, &roll.len(), &0);
+    same(rt, &roll.capacity(), &seats(rt, 2));
     let seven = key(rt, 3, 5, 7);
     let offers = [OneOffer::new(&seven, None, Some(&seven))];
     expect_offers(rt, alloc, roll, &offers)?;
-    assert_eq!(rt; roll.len(), 1);
+    same(rt, &roll.len(), &1);
     Ok(())
 }
 
@@ -191,8 +192,8 @@ fn renewed<R: Roll>(rt: &impl Abort, alloc: Global, roll: &mut R) -> Result<(), 
 fn a_held_key_keeps_its_guess(rt: HostRuntime) {
     let one = key(&rt, 4, 0xe56a5d4028bd8653, 1);
     let held = HeldKey::of(one, 199_999);
-    assert_eq!(&rt; held.guess(), 199_999);
-    assert_eq!(&rt; held.key(), one);
+    same(&rt, &held.guess(), &199_999);
+    same(&rt, &held.key(), &one);
 }
 
 #[test]

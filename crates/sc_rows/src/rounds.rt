@@ -6,6 +6,7 @@ ghost use Rattle.sc_checkpoint.specs.NextChoices.{AreNextChoices};
 ghost use Rattle.sc_engine.specs.Round.{view_of, is_spent};
 ghost use Rattle.sc_engine.specs.RoundView.{Fits, has_entered, SettlesFirst};
 
+use crate::comparing::same;
 use crate::given::{expect_said, papers_of, school, student};
 use sc_checkpoint::Standing;
 use sc_engine::{Round, Settled, settle, settle_by_first_keys};
@@ -169,7 +170,7 @@ pub(super) fn resume_with_the_third<R: Roll>(
         return Err(AllocError);
     };
     let next_choices = first_two_stand::<R>(alloc, papers, one, two)?;
-    assert_eq!(rt; next_choices.as_slice(), told);
+    same(rt, &next_choices.as_slice(), &told);
     let mut round: Round<R> = Round::resume(alloc, papers, &next_choices)?;
     round.enter_one(papers, three)?;
     round.into_settled(papers)
@@ -282,7 +283,7 @@ fn expect_unsettled<R: Roll>(rt: &impl Abort, papers: &FlatPapers, round: Round<
 }
 
 fn expect_first_school(rt: &impl Abort, place: Option<SchoolNo>) {
-    assert_eq!(rt; place, Some(school(rt, 1)));
+    same(rt, &place, &Some(school(rt, 1)));
 }
 
 /// The student has entered at school 1.
@@ -297,7 +298,7 @@ fn expect_entered<R: Roll>(
     assert!(rt; !round.is_spent());
     expect_first_school(rt, round.next_choice(papers, one));
     assert!(rt; round.log().is_empty());
-    assert_eq!(rt; round.proposals(), 1);
+    same(rt, &round.proposals(), &1);
     let assignment = round.assignment(papers)?;
     expect_first_school(rt, assignment.get(one));
     drop(assignment);

@@ -5,6 +5,7 @@ ghost use Rattle.sc_papers.specs.Market.{students_of};
 ghost use Rattle.sc_checkpoint.specs.Chains.{students_in};
 ghost use Rattle.sc_checkpoint.specs.Spans.{AreWithin};
 
+use crate::comparing::same;
 use crate::given::{school, student};
 use crate::rounds::{expect_both, resume_with_the_third};
 use sc_checkpoint::{Segments, Spans, Standing};
@@ -138,11 +139,11 @@ fn expect_cuts(rt: &impl Abort, segments: &Segments)
     requires { length segments.now ≡ 3 }
 {
     let chain = last_chain(rt);
-    assert_eq!(rt; segments.len(), 3);
-    assert_eq!(rt; segments.log_len(), 3);
-    assert_eq!(rt; segments.segment(0).len(), 0);
-    assert_eq!(rt; segments.segment(2), chain.as_slice());
-    assert_eq!(rt; segments.student(2), student(rt, 3));
+    same(rt, &segments.len(), &3);
+    same(rt, &segments.log_len(), &3);
+    same(rt, &segments.segment(0).len(), &0);
+    same(rt, &segments.segment(2), &chain.as_slice());
+    same(rt, &segments.student(2), &student(rt, 3));
 }
 
 #[test]
@@ -155,21 +156,21 @@ fn segments_are_cut_where_students_enter(rt: HostRuntime) {
 /// Pushes the third student's first rejection behind the first two.
 fn push_one(rt: &impl Abort, rewound: &mut Segments) {
     let chain = last_chain(rt);
-    assert_eq!(rt; rewound.len(), 2);
+    same(rt, &rewound.len(), &2);
     let pushed = rewound.push(student(rt, 3), &chain[..1]);
     assert!(rt; pushed.is_ok());
-    assert_eq!(rt; rewound.log_len(), 1);
+    same(rt, &rewound.log_len(), &1);
     let log = rewound.flat().expect(rt, "memory");
-    assert_eq!(rt; log.as_slice(), &chain[..1]);
+    same(rt, &log.as_slice(), &&chain[..1]);
 }
 
 fn expect_copies(rt: &impl Abort, segments: &Segments)
     requires { length segments.now ≡ 3 }
 {
     let log = segments.flat().expect(rt, "memory");
-    assert_eq!(rt; log.as_slice(), last_chain(rt).as_slice());
+    same(rt, &log.as_slice(), &last_chain(rt).as_slice());
     let prefix = segments.prefix(2).expect(rt, "memory");
-    assert_eq!(rt; prefix.len(), 0);
+    same(rt, &prefix.len(), &0);
     let mut rewound = segments.copy_prefix(2).expect(rt, "memory");
     push_one(rt, &mut rewound);
     drop(rewound);
@@ -184,14 +185,14 @@ fn checkpoints_are_copied(rt: HostRuntime) {
 
 /// The students stand at these schools, in order: 0 is none.
 fn expect_each(rt: &impl Abort, next_choices: &[Standing], wanted: &[(u32, u32)]) {
-    assert_eq!(rt; next_choices.len(), wanted.len());
+    same(rt, &next_choices.len(), &wanted.len());
     for (choice, (number, at)) in next_choices.iter().zip(wanted.iter()) {
-        assert_eq!(rt; choice.student, student(rt, *number));
+        same(rt, &choice.student, &student(rt, *number));
         let next = match choice.next {
             Some(next) => next.get(),
             None => 0,
         };
-        assert_eq!(rt; next, *at);
+        same(rt, &next, at);
     }
 }
 
@@ -305,12 +306,12 @@ fn renew(rt: &impl Abort, alloc: Global, segments: &mut Segments)
     for _turn in 0..8 {
         assert!(rt; renew_two(rt, alloc, segments, log).is_ok());
     }
-    assert_eq!(rt; segments.segment(0), &log[..1]);
-    assert_eq!(rt; segments.segment(1).len(), 0);
-    assert_eq!(rt; segments.segment(2), &log[1..]);
+    same(rt, &segments.segment(0), &&log[..1]);
+    same(rt, &segments.segment(1).len(), &0);
+    same(rt, &segments.segment(2), &&log[1..]);
     segments.remove(0);
-    assert_eq!(rt; segments.len(), 2);
-    assert_eq!(rt; segments.log_len(), 2);
+    same(rt, &segments.len(), &2);
+    same(rt, &segments.log_len(), &2);
 }
 
 #[test]
@@ -361,12 +362,12 @@ fn hints_of_two(rt: &impl Abort, alloc: Global, room: usize) -> Hints {
 #[test]
 fn hints_of_two_students(rt: HostRuntime) {
     let hints = hints_of_two(&rt, rt.alloc(), 4);
-    assert_eq!(&rt; hints.guess(student(&rt, 1)), 7);
-    assert_eq!(&rt; hints.guess(student(&rt, 2)), 9);
+    same(&rt, &hints.guess(student(&rt, 1)), &7);
+    same(&rt, &hints.guess(student(&rt, 2)), &9);
     // There is one place at least, which both share: the later one stands there.
     let shared = hints_of_two(&rt, rt.alloc(), 0);
-    assert_eq!(&rt; shared.guess(student(&rt, 1)), 9);
-    assert_eq!(&rt; shared.guess(student(&rt, 2)), 9);
+    same(&rt, &shared.guess(student(&rt, 1)), &9);
+    same(&rt, &shared.guess(student(&rt, 2)), &9);
 }
 
 fn expect_growths(rt: &impl Abort, alloc: Global, segments: &mut Segments)

@@ -4,6 +4,7 @@ mod papers;
 mod rows;
 mod script;
 
+use crate::comparing::expect_text;
 use sc_intake::{IntakeFault, read_lists, read_log, read_roster, read_schools, read_script};
 use sc_papers::{Refusal, Stamped};
 use std::alloc::{AllocError, Global};
@@ -78,8 +79,7 @@ fn told(alloc: Global, view: View, text: &[u8]) -> Result<String, AllocError> {
 
 /// A text shows what is wanted.
 fn expect_told(rt: &impl Abort, alloc: Global, view: View, text: &str, want: &str) {
-    let told = told(alloc, view, text.as_bytes()).expect(rt, "memory");
-    assert!(rt; told.as_str() == want, "{text}: {told}");
+    expect_text(rt, told(alloc, view, text.as_bytes()), want, text);
 }
 
 /// Each text below the header shows what is wanted.

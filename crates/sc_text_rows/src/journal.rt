@@ -1,4 +1,5 @@
 //! The lines of a journal, both ways, and journals replayed over Market B.
+use crate::comparing::{expect_text, same};
 use sc_journal::{JournalFault, LineNo, Tail, line, read_line, replay};
 use sc_markets::{amendment, market_b, places_text};
 use sc_papers::Amendment;
@@ -24,8 +25,7 @@ fn reread(alloc: Global, text: &str) -> Result<String, AllocError> {
 /// Each text is written again as is wanted.
 fn expect_reread(rt: &impl Abort, alloc: Global, table: &[(&str, &str)]) {
     for (text, want) in table {
-        let again = reread(alloc, text).expect(rt, "memory");
-        assert!(rt; again.as_str() == *want, "{text}: {again}");
+        expect_text(rt, reread(alloc, text), want, text);
     }
 }
 
@@ -60,12 +60,7 @@ fn replayed(alloc: Global, journal: &[u8]) -> Result<String, AllocError> {
 
 /// The replay of a journal answers what is wanted.
 fn expect_replay(rt: &impl Abort, alloc: Global, journal: &[u8], want: &str) {
-    let told = replayed(alloc, journal).expect(rt, "memory");
-    assert!(rt;
-        told.as_str() == want,
-        "after {} bytes: {told}",
-        journal.len()
-    );
+    expect_text(rt, replayed(alloc, journal), want, "a replay");
 }
 
 /// The replay of each journal answers what is wanted.
@@ -82,7 +77,7 @@ fn line_numbers(rt: HostRuntime) {
         assert!(rt; number.next() == LineNo::new(*next));
     }
     let last = LineNo::new(999_999_999).expect(&rt, "a line");
-    assert_eq!(rt; last.get(), 999_999_999);
+    same(&rt, &last.get(), &999_999_999);
     assert!(rt; last.next().is_none());
     assert!(rt; LineNo::new(0).is_none());
     assert!(rt; LineNo::new(1_000_000_000).is_none());

@@ -9,6 +9,7 @@ mod notices;
 mod published;
 mod sections;
 
+use crate::comparing::{expect_text, same};
 use sc_papers::Seed;
 use sc_report::Watched;
 use sc_report::devices::{Ending, FailingWriter};
@@ -104,14 +105,13 @@ fn ran(
 
 /// What was left is what is wanted.
 fn expect_left(rt: &impl Abort, left: Result<String, AllocError>, want: &str) {
-    let left = left.expect(rt, "memory");
-    assert!(rt; left.as_str() == want, "{left}");
+    expect_text(rt, left, want, "what was left");
 }
 
 /// What was left is what is wanted, below a header.
 fn expect_below(rt: &impl Abort, left: Result<String, AllocError>, header: &str, want: &str) {
     let left = left.expect(rt, "memory");
-    assert!(rt; left.as_str().strip_prefix(header) == Some(want), "{left}");
+    same(rt, &left.as_str().strip_prefix(header), &Some(want));
 }
 
 /// Each script over the opening leaves what is wanted, where the journal takes so many bytes.

@@ -1,6 +1,7 @@
 //! What words order, and what is said of words that order nothing.
 mod help;
 
+use crate::comparing::{same, same_in};
 use clap::error::ErrorKind;
 use sc_program::end_without_words;
 use sc_words::{FileWords, OpeningWords, Order, Subcommand, Word, order_of};
@@ -204,7 +205,7 @@ const ORDERS: &[(&str, Subcommand<'static>)] = &[
 /// The words order this.
 fn expect_order<R: Abort + AllocGlobal>(rt: &R, words: &[Word], want: Order<'_>) {
     match order_of(rt.alloc(), words) {
-        Ok(order) => assert!(rt; order == want, "{order:?}"),
+        Ok(order) => same(rt, &order, &want),
         Err(error) => panic!(rt; "{error}"),
     }
 }
@@ -276,7 +277,7 @@ fn clap_error(alloc: Global, line: &str) -> Result<Option<(ErrorKind, String)>, 
 fn expect_error<R: Abort + AllocGlobal>(rt: &R, line: &str, kind: ErrorKind, piece: &str) {
     match clap_error(rt.alloc(), line) {
         Ok(Some((found, text))) => {
-            assert!(rt; found == kind, "{line}: {found:?}");
+            same_in(rt, &found, &kind, line);
             assert!(rt; text.as_str().contains(piece), "{line}: {text}");
         }
         Ok(None) => panic!(rt; "{line}: no error"),
@@ -349,7 +350,7 @@ fn expect_end<R: Abort + AllocGlobal>(rt: &R, error: &io::Error, line: &[u8], wa
     let mut errors = Vec::new(rt.alloc());
     let status = end_without_words(rt.alloc(), error, &mut errors);
     assert!(rt; errors.as_slice() == line, "{errors:?}");
-    assert!(rt; status == want, "{status}");
+    same(rt, &status, &want);
 }
 
 #[test]

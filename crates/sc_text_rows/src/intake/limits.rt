@@ -1,5 +1,6 @@
 //! The greatest inputs, and one past them.
 use super::{View, told};
+use crate::comparing::expect_text;
 use sc_intake::MOST_BYTES;
 use std::alloc::{AllocError, Global};
 use std::process::Abort;
@@ -17,8 +18,7 @@ fn rows_under(alloc: Global, header: &str, count: u32) -> Result<String, AllocEr
 /// An input of so many rows reads as is wanted.
 fn expect_rows(rt: &impl Abort, alloc: Global, view: View, header: &str, count: u32, want: &str) {
     let text = rows_under(alloc, header, count).expect(rt, "memory");
-    let told = told(alloc, view, text.as_bytes()).expect(rt, "memory");
-    assert!(rt; told.as_str() == want, "{told}");
+    expect_text(rt, told(alloc, view, text.as_bytes()), want, header);
 }
 
 #[test]
@@ -40,6 +40,6 @@ fn at_most_200000_students(rt: HostRuntime) {
 fn at_most_64_mebibytes(rt: HostRuntime) {
     assert!(rt; MOST_BYTES == 67_108_864);
     let newlines = vec![in rt.alloc(); b'\n'; 67_108_865].expect(&rt, "memory");
-    let more = told(rt.alloc(), View::Log, newlines.as_slice()).expect(&rt, "memory");
-    assert!(rt; more.as_str() == "log row 0: TooLong", "{more}");
+    let more = told(rt.alloc(), View::Log, newlines.as_slice());
+    expect_text(&rt, more, "log row 0: TooLong", "newlines");
 }

@@ -1,4 +1,5 @@
 //! The three files together: the papers that they make, or their first fault.
+use crate::comparing::expect_text;
 use sc_intake::{IntakeFault, papers_of, read_lists, read_papers, read_roster, read_schools};
 use sc_papers::{Papers, SchoolList, Seed, Student};
 use std::alloc::{AllocError, Global};
@@ -94,8 +95,7 @@ fn told(alloc: Global, opened: Result<Papers, IntakeFault>) -> Result<String, Al
 
 /// The papers, or the fault, are what is wanted.
 fn expect_papers(rt: &impl Abort, alloc: Global, opened: Result<Papers, IntakeFault>, want: &str) {
-    let told = told(alloc, opened).expect(rt, "memory");
-    assert!(rt; told.as_str() == want, "{told}");
+    expect_text(rt, told(alloc, opened), want, "papers");
 }
 
 /// Each three files make the papers that are wanted, or have that fault, by either call.

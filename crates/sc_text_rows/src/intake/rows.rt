@@ -1,5 +1,6 @@
 //! The files and the log: how many rows each has, or its first fault.
 use super::{View, expect, told};
+use crate::comparing::expect_text;
 use std::alloc::Global;
 use std::process::Abort;
 
@@ -36,8 +37,7 @@ fn openings_and_ends(rt: HostRuntime) {
 
 /// A file of the schools reads as is wanted.
 fn expect_bytes(rt: &impl Abort, alloc: Global, bytes: &[u8], want: &str) {
-    let told = told(alloc, View::Schools, bytes).expect(rt, "memory");
-    assert!(rt; told.as_str() == want, "{told}");
+    expect_text(rt, told(alloc, View::Schools, bytes), want, "schools");
 }
 
 #[test]

@@ -1,5 +1,6 @@
 //! Readers and writers that fail in mid-stream, read and written whole.
 use super::{MARKET_B, amend};
+use crate::comparing::{same, same_in};
 use sc_markets::clearing;
 use sc_report::devices::{Ending, FailingReader, FailingWriter};
 use sc_report::{
@@ -25,10 +26,10 @@ fn writer(
 
 /// A line, nothing and a flush are all taken.
 fn expect_whole(rt: &impl Abort, to: &mut Watched<FailingWriter>) {
-    assert_eq!(rt; write_whole(to, b"student,school\n"), Ok(()));
-    assert_eq!(rt; write_whole(to, b""), Ok(()));
-    assert_eq!(rt; to.flush(), Ok(()));
-    assert_eq!(rt; to.inner().taken(), b"student,school\n".as_slice());
+    same(rt, &write_whole(to, b"student,school\n"), &Ok(()));
+    same(rt, &write_whole(to, b""), &Ok(()));
+    same(rt, &to.flush(), &Ok(()));
+    same(rt, &to.inner().taken(), &b"student,school\n".as_slice());
     assert!(rt; !to.failed());
 }
 
@@ -40,8 +41,8 @@ fn written_whole_in_pieces(rt: HostRuntime) {
 
 /// A writer that fails in these bytes has taken so many of them.
 fn expect_prefix(rt: &impl Abort, to: &mut Watched<FailingWriter>, bytes: &[u8], taken: &[u8]) {
-    assert_eq!(rt; write_whole(to, bytes), Err(DeviceFailed));
-    assert_eq!(rt; to.inner().taken(), taken);
+    same(rt, &write_whole(to, bytes), &Err(DeviceFailed));
+    same(rt, &to.inner().taken(), &taken);
     assert!(rt; to.failed());
 }
 
@@ -66,16 +67,16 @@ fn failing_writers(rt: HostRuntime) {
     );
     let answer = write_report(rt.alloc(), &opened, &mut to);
     drop(opened);
-    assert_eq!(rt; answer, Err(ReportFault::Write));
-    assert_eq!(rt; to.inner().taken(), b"student,sc".as_slice());
+    same(&rt, &answer, &Err(ReportFault::Write));
+    same(&rt, &to.inner().taken(), &b"student,sc".as_slice());
 }
 
 #[test]
 fn failed_by_its_flush(rt: HostRuntime) {
     let mut to = writer(&rt, rt.alloc(), 2, 2, Ending::Fails);
-    assert_eq!(rt; write_whole(&mut to, b"ok"), Ok(()));
+    same(&rt, &write_whole(&mut to, b"ok"), &Ok(()));
     assert!(rt; !to.failed());
-    assert_eq!(rt; to.flush(), Err(DeviceFailed));
+    same(&rt, &to.flush(), &Err(DeviceFailed));
     assert!(rt; to.failed());
 }
 
@@ -83,8 +84,8 @@ fn failed_by_its_flush(rt: HostRuntime) {
 fn expect_up_to(rt: &impl Abort, alloc: Global, limit: usize, given: &[u8], left: &[u8]) {
     let mut from = Watched::new(b"abcdef".as_slice());
     let bytes = read_whole(alloc, &mut from, limit).expect(rt, "a device");
-    assert_eq!(rt; bytes.as_slice(), given, "at {limit}");
-    assert_eq!(rt; *from.inner(), left, "at {limit}");
+    same(rt, &bytes.as_slice(), &given);
+    same(rt, from.inner(), &left);
     assert!(rt; !from.failed());
 }
 
@@ -106,7 +107,7 @@ fn expect_read(
     want: &[u8],
 ) {
     let bytes = read_whole(alloc, from, limit).expect(rt, "a device");
-    assert_eq!(rt; bytes.as_slice(), want);
+    same(rt, &bytes.as_slice(), &want);
 }
 
 /// A reader fails before it has given what is asked of it.
@@ -117,7 +118,7 @@ fn expect_fault(
     limit: usize,
 ) {
     let fault = read_whole(alloc, from, limit).err();
-    assert_eq!(rt; fault, Some(ReadFault::Device));
+    same(rt, &fault, &Some(ReadFault::Device));
 }
 
 #[test]
@@ -139,14 +140,12 @@ fn expect_difference(rt: &impl Abort, alloc: Global, text: &str, difference: Opt
     let found = first_difference(alloc, &mut from, text.as_bytes()).ok();
     // It is asked for more only where all were alike so far.
     let fails = difference.is_none() || difference == Some(3);
-    assert!(rt; from.failed() == fails, "{text}");
-    assert!(rt;
-        found == if fails { None } else { Some(difference) },
-        "{text}"
-    );
+    same_in(rt, &from.failed(), &fails, text);
+    let wanted = if fails { None } else { Some(difference) };
+    same_in(rt, &found, &wanted, text);
     let mut from = Watched::new(b"ab\ncd\n".as_slice());
     let found = first_difference(alloc, &mut from, text.as_bytes()).ok();
-    assert!(rt; found == Some(difference), "{text}");
+    same_in(rt, &found, &Some(difference), text);
 }
 
 #[test]
@@ -161,8 +160,12 @@ fn compared_in_pieces(rt: HostRuntime) {
 
 /// A reader gives two bytes, and then fails with an error of this kind.
 fn expect_kind(rt: &impl Abort, from: &mut FailingReader<'_>, room: &mut [u8], kind: ErrorKind) {
-    assert_eq!(rt; from.read(room).ok(), Some(2));
-    assert_eq!(rt; from.read(room).err().map(|error| error.kind()), Some(kind));
+    same(rt, &from.read(room).ok(), &Some(2));
+    same(
+        rt,
+        &from.read(room).err().map(|error| error.kind()),
+        &Some(kind),
+    );
 }
 
 #[test]
@@ -191,16 +194,16 @@ fn readers_that_fail_once(rt: HostRuntime) {
         let mut from = reader;
         let mut room = [0; 9];
         expect_kind(&rt, &mut from, &mut room, *kind);
-        assert_eq!(rt; from.read(&mut room).ok(), Some(4));
-        assert_eq!(rt; from.read(&mut room).ok(), Some(0));
+        same(&rt, &from.read(&mut room).ok(), &Some(4));
+        same(&rt, &from.read(&mut room).ok(), &Some(0));
     }
 }
 
 /// A writer that has failed takes all that comes after, and still says that it has failed.
 fn expect_more(rt: &impl Abort, to: &mut Watched<FailingWriter>) {
-    assert_eq!(rt; write_whole(to, b"nt"), Ok(()));
-    assert_eq!(rt; to.flush(), Ok(()));
-    assert_eq!(rt; to.inner().taken(), b"student".as_slice());
+    same(rt, &write_whole(to, b"nt"), &Ok(()));
+    same(rt, &to.flush(), &Ok(()));
+    same(rt, &to.inner().taken(), &b"student".as_slice());
     assert!(rt; to.failed());
 }
 
@@ -217,8 +220,8 @@ fn writers_that_fail_once(rt: HostRuntime) {
 fn flushes_that_fail_once(rt: HostRuntime) {
     for kind in &[ErrorKind::Other, ErrorKind::Interrupted] {
         let mut to = writer(&rt, rt.alloc(), 0, 9, Ending::FailsOnce(*kind));
-        assert_eq!(rt; to.flush(), Err(DeviceFailed));
-        assert_eq!(rt; to.flush(), Ok(()));
+        same(&rt, &to.flush(), &Err(DeviceFailed));
+        same(&rt, &to.flush(), &Ok(()));
         assert!(rt; to.failed());
     }
 }
@@ -274,14 +277,14 @@ fn uncalled() -> Watched<Counting> {
 #[test]
 fn no_call_is_made_again(rt: HostRuntime) {
     let mut to = uncalled();
-    assert_eq!(rt; to.write(b"student"), Err(DeviceFailed));
+    same(&rt, &to.write(b"student"), &Err(DeviceFailed));
     assert!(rt; to.inner().calls == 1 && to.failed());
     let mut to = uncalled();
-    assert_eq!(rt; to.flush(), Err(DeviceFailed));
+    same(&rt, &to.flush(), &Err(DeviceFailed));
     assert!(rt; to.inner().calls == 1 && to.failed());
     let mut from = uncalled();
     let mut room = [0; 4];
-    assert_eq!(rt; from.read(&mut room), Err(DeviceFailed));
+    same(&rt, &from.read(&mut room), &Err(DeviceFailed));
     assert!(rt; from.inner().calls == 1 && from.failed());
 }
 

@@ -1,6 +1,7 @@
 //! Whom schools admit and who waits for them, in the worked markets.
 use super::notices::{CLOSED_AND_FREE, CONTINUING, HEADERS, ONE_SEAT};
 use super::{Files, MARKET_B_FILES, expect_below, opening, seed, told, watched};
+use crate::comparing::same_in;
 use sc_papers::{SchoolNo, Seed};
 use sc_report::Watched;
 use sc_runs::{admissions_files, read_school};
@@ -128,6 +129,6 @@ fn named(text: &str) -> Option<u32> {
 fn schools_named_by_texts(rt: HostRuntime) {
     for (text, want) in NAMED {
         let found = named(text);
-        assert!(rt; found == *want, "{text}: {found:?}");
+        same_in(&rt, &found, want, text);
     }
 }

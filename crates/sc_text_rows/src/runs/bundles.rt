@@ -2,6 +2,7 @@
 mod scripts;
 
 use super::{ZEROS, expect_left};
+use crate::comparing::expect_text;
 use crate::markets::{MARKET_A, MARKET_B, Rows};
 use sc_markets::{LISTS_A, SCHOOLS_B, roster_header};
 use sc_report::Watched;
@@ -70,8 +71,7 @@ fn opened(alloc: Global, rows: Rows) -> Result<String, AllocError> {
 
 /// A row gives what is wanted.
 fn expect_row(rt: &impl Abort, row: &str, told: Result<String, AllocError>, want: &str) {
-    let told = told.expect(rt, "memory");
-    assert!(rt; told.as_str() == want, "{row}: {told}");
+    expect_text(rt, told, want, row);
 }
 
 /// Each opening gives what is wanted.

@@ -1,6 +1,7 @@
 //! Whose place the amendments of a journal changed, in the worked markets.
 use super::notices::{CLOSED_AND_FREE, HEADERS};
 use super::{Files, MARKET_B_FILES, expect_below, opening, seed, told};
+use crate::comparing::same_in;
 use sc_papers::Seed;
 use sc_report::Watched;
 use sc_runs::{changes_files, read_since};
@@ -152,6 +153,6 @@ const SAID: &[(&str, Option<u32>)] = &[
 fn lines_said_by_texts(rt: HostRuntime) {
     for (text, want) in SAID {
         let found = read_since(text.as_bytes());
-        assert!(rt; found == *want, "{text}: {found:?}");
+        same_in(&rt, &found, want, text);
     }
 }

@@ -1,5 +1,6 @@
 //! Every fault of files and scripts.
 use super::{Files, MARKET_B_FILES, NAMES, expect_left, opening, seed, told, watched};
+use crate::comparing::same;
 use sc_papers::Seed;
 use sc_report::Watched;
 use sc_report::devices::{Ending, FailingWriter};
@@ -252,7 +253,7 @@ fn expect_lines(rt: &impl Abort, alloc: Global, given: &Nonsense) {
     let seed = seed(rt);
     let mut out = Watched::new(Vec::new(alloc));
     let answer = check_script(alloc, &seed, given.script.as_slice(), &mut out);
-    assert_eq!(rt; answer.ok(), Some(Checked::Faulty));
+    same(rt, &answer.ok(), &Some(Checked::Faulty));
     assert!(rt; out.inner().as_slice() == given.lines.as_slice());
 }
 
@@ -262,9 +263,9 @@ fn expect_beginning(rt: &impl Abort, alloc: Global, given: &Nonsense) {
     let room = Vec::with_capacity(alloc, 70_000).expect(rt, "memory");
     let mut out = Watched::new(FailingWriter::new(room, 66_000, 999, Ending::Fails));
     let answer = check_script(alloc, &seed, given.script.as_slice(), &mut out);
-    assert_eq!(rt; answer.err(), Some(RunFault::WriteOut));
+    same(rt, &answer.err(), &Some(RunFault::WriteOut));
     let taken = out.inner().taken();
-    assert_eq!(rt; taken.len(), 66_000);
+    same(rt, &taken.len(), &66_000);
     assert!(rt; given.lines.as_slice().starts_with(taken));
 }
 

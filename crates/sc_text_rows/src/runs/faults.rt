@@ -1,5 +1,6 @@
 //! Runs whose devices fail: a script cut short, slow and failing outputs, bundles cut at each byte.
 use super::{run_told, seed, told};
+use crate::comparing::same;
 use sc_papers::Seed;
 use sc_report::Watched;
 use sc_report::devices::{Ending, FailingReader, FailingWriter};
@@ -96,7 +97,7 @@ fn expect(
     let left = left(alloc, &seed, script, settling, takings).expect(rt, "memory");
     let (output, journal, answer) = want;
     let want = format!(in alloc; "{output}|{journal}|{answer}").expect(rt, "memory");
-    assert!(rt; left.as_str() == want.as_str(), "{settling:?}: {left}");
+    same(rt, &left.as_str(), &want.as_str());
 }
 
 /// The whole run, with these writers, whenever the papers are settled.
@@ -229,11 +230,7 @@ fn expect_replay(rt: &impl Abort, alloc: Global, journal: &'static [u8], want: (
     let seed = seed(rt);
     let left = replayed(alloc, &seed, journal).expect(rt, "memory");
     let want = format!(in alloc; "{}|Ok({})", want.0, want.1).expect(rt, "memory");
-    assert!(rt;
-        left.as_str() == want.as_str(),
-        "after {} bytes: {left}",
-        journal.len()
-    );
+    same(rt, &left.as_str(), &want.as_str());
 }
 
 #[test]

@@ -1,5 +1,6 @@
 //! What is told of papers as they stand, in the worked markets.
 use super::{Files, MARKET_B_FILES, expect_below, expect_left, opening, seed, told, watched};
+use crate::comparing::same_in;
 use sc_papers::{Seed, StudentNo};
 use sc_report::Watched;
 use sc_runs::{explain_files, read_student, summary_files};
@@ -243,6 +244,6 @@ fn named(text: &str) -> Option<u32> {
 fn students_named_by_texts(rt: HostRuntime) {
     for (text, want) in NAMED {
         let found = named(text);
-        assert!(rt; found == *want, "{text}: {found:?}");
+        same_in(&rt, &found, want, text);
     }
 }

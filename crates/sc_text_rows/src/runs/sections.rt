@@ -1,4 +1,5 @@
 //! Bundles cut into their sections.
+use crate::comparing::{same, same_in};
 use sc_runs::{Bundle, split_bundle};
 
 #[test]
@@ -12,7 +13,7 @@ fn stored_run(rt: HostRuntime) {
         lists: b"student,choices\n1,10 20\n",
         script: None,
     };
-    assert_eq!(rt; split_bundle(input), Some(sections));
+    same(&rt, &split_bundle(input), &Some(sections));
 }
 
 #[test]
@@ -25,7 +26,7 @@ fn line_ends_and_scripts(rt: HostRuntime) {
         script: Some(b""),
     };
     let front = b"%seed\r\n \ta b\t\r\n%schools\r\nS\r\n%roster\n%lists\nL\r\n%script";
-    assert_eq!(rt; split_bundle(front), Some(sections));
+    same(&rt, &split_bundle(front), &Some(sections));
     // A CR at the very end is a part of its line, which is then no marker.
     let lone = b"%seed\r\n \ta b\t\r\n%schools\r\nS\r\n%roster\n%lists\nL\r\n%script\r";
     let all = Bundle {
@@ -33,7 +34,7 @@ fn line_ends_and_scripts(rt: HostRuntime) {
         script: None,
         ..sections
     };
-    assert_eq!(rt; split_bundle(lone), Some(all));
+    same(&rt, &split_bundle(lone), &Some(all));
 }
 
 #[test]
@@ -47,7 +48,7 @@ fn markers_out_of_turn(rt: HostRuntime) {
     };
     let input =
         b"%seed\n%roster\n%schools\n%seed\n%schools \n%roster\n%schools\n%lists\n%lists\n%script\n%script";
-    assert_eq!(rt; split_bundle(input), Some(sections));
+    same(&rt, &split_bundle(input), &Some(sections));
 }
 
 #[test]
@@ -60,6 +61,6 @@ fn no_bundles(rt: HostRuntime) {
         "%seed\n%roster\n%schools\n%lists\n",
         "%seed\n%schools\n%roster\n%list",
     ] {
-        assert_eq!(rt; split_bundle(text.as_bytes()), None, "{text}");
+        same_in(&rt, &split_bundle(text.as_bytes()), &None, text);
     }
 }

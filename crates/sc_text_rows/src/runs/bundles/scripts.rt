@@ -3,6 +3,7 @@ use super::{
     CONTINUING_FIRST, FIVE_STUDENTS, FREE_SEATS, MARKET_B_CONTINUING, TWO_STUDENTS, ZONE_FIRST,
     bundle, expect_row, told, written,
 };
+use crate::comparing::same;
 use crate::markets::{MARKET_A, MARKET_B, Rows};
 use std::alloc::{AllocError, Global};
 use std::process::Abort;
@@ -248,5 +249,5 @@ fn a_long_script(rt: HostRuntime) {
     let replies = many_replies(rt.alloc(), 500).expect(&rt, "memory");
     let left = scripted(rt.alloc(), false, MARKET_B, script.as_str()).expect(&rt, "memory");
     let told = left.as_str().strip_prefix(replies.as_str());
-    assert!(rt; told == Some("student,school\n1,10\n2,20\n0"), "{left}");
+    same(&rt, &told, &Some("student,school\n1,10\n2,20\n0"));
 }
