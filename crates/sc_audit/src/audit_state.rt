@@ -19,13 +19,22 @@ use std::alloc::{AllocError, Global};
 /// Who stands where after the entries so far, and the best keys of each school, as many as it has
 /// seats: who stands at a school and is not behind them all is kept there. Students and schools go by
 /// their positions in the papers.
-#[derive(Drop)]
 pub(crate) struct AuditState {
     // The rank in their choices at which each student stands, if they stand anywhere.
     stands: Vec<Option<u8>>,
     schools: Vec<BestKeys>,
     // Where the students may stand in the papers, by their numbers.
     hints: Hints,
+}
+
+impl Drop for AuditState {
+    fn drop(self) {
+        let AuditState {
+            stands: _,
+            schools: _,
+            hints: _,
+        } = self;
+    }
 }
 
 /// The seats of the school at the position.

@@ -11,12 +11,21 @@ use std::collections::BinaryHeap;
 use std::marker::Model;
 
 /// The best keys that a school was offered, as many as it has seats.
-#[derive(Drop)]
 pub(crate) struct BestKeys {
     keys: BinaryHeap<Key>,
     seats: Seats,
     // The last of the keys, if there is one, so that an offer that is refused reads no heap.
     last: Option<Key>,
+}
+
+impl Drop for BestKeys {
+    fn drop(self) {
+        let BestKeys {
+            keys: _,
+            seats: _,
+            last: _,
+        } = self;
+    }
 }
 
 impl Model for BestKeys {

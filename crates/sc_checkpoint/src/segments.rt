@@ -23,13 +23,23 @@ use std::marker::Model;
 /// All entries lie in one piece of memory, and a renewed segment is put at its end, so that the others stay where
 /// they are. Once the entries of segments that have gone are twice as many as all others and the segments, these are put
 /// together, so that each amendment bears its part of that.
-#[derive(Drop)]
 pub struct Segments {
     alloc: Global,
     spans: VecDeque<Span>,
     entries: Vec<Rejection>,
     // How many entries belong to no segment any more. Nothing but the cost depends on it.
     gone: usize,
+}
+
+impl Drop for Segments {
+    fn drop(self) {
+        let Segments {
+            alloc: _,
+            spans: _,
+            entries: _,
+            gone: _,
+        } = self;
+    }
 }
 
 impl Model for Segments {

@@ -13,11 +13,20 @@ use std::alloc::{AllocError, Global};
 use std::marker::Model;
 
 /// The three files of an opening, each judged row by row.
-#[derive(Drop)]
 struct Files<'a> {
     schools: Sheet<'a, SchoolRow>,
     roster: Sheet<'a, RosterRow>,
     lists: Sheet<'a, ListRow>,
+}
+
+impl Drop for Files<'_> {
+    fn drop(self) {
+        let Files {
+            schools: _,
+            roster: _,
+            lists: _,
+        } = self;
+    }
 }
 
 /// Faults that were found together, and how many of them were told.
@@ -30,7 +39,6 @@ struct Found {
 /// The faults of the texts of three files and of a script that are left to be told. They are told one after the other,
 /// and found as they are told. What is kept are the rows that have no fault, and of the faults those alone that are of
 /// what the rows say together, of which there are at most 400,000.
-#[derive(Drop)]
 pub struct Faults<'a> {
     alloc: Global,
     seed: Seed,
@@ -40,6 +48,19 @@ pub struct Faults<'a> {
     // Found once each file alone was judged.
     together: Option<Found>,
     script: ScriptFaults<'a>,
+}
+
+impl Drop for Faults<'_> {
+    fn drop(self) {
+        let Faults {
+            alloc: _,
+            seed: _,
+            schools: _,
+            files: _,
+            together: _,
+            script: _,
+        } = self;
+    }
 }
 
 impl<'a> Model for Faults<'a> {

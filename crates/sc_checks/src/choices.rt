@@ -23,11 +23,20 @@ use std::alloc::{AllocError, Global};
 use std::collections::BTreeMap;
 
 /// The rows of the lists that have no fault: each student's, by number, and the lines at which they stand.
-#[derive(Drop)]
 pub(crate) struct ListTable<'a> {
     sheet: Sheet<'a, ListRow>,
     positions: BTreeMap<StudentNo, usize>,
     lines: Vec<Option<RowLine<'a>>>,
+}
+
+impl Drop for ListTable<'_> {
+    fn drop(self) {
+        let ListTable {
+            sheet: _,
+            positions: _,
+            lines: _,
+        } = self;
+    }
 }
 
 /// A student's list of which the papers refuse the choices: the number of its row, whose it is, and the line at which it

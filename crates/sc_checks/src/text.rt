@@ -166,11 +166,20 @@ fn push_refusal(
 
 /// What the lines of faults are made from: the inputs, a place in each of them, and where the students' lists stand, once
 /// the choices of a student were refused.
-#[derive(Drop)]
 struct Teller<'a> {
     files: InputFiles<'a>,
     finders: Finders<'a>,
     table: Option<ListTable<'a>>,
+}
+
+impl Drop for Teller<'_> {
+    fn drop(self) {
+        let Teller {
+            files: _,
+            finders: _,
+            table: _,
+        } = self;
+    }
 }
 
 /// A teller's table, or where there is none yet, that of the lists in this text.
@@ -258,11 +267,20 @@ fn push_line(
 }
 
 /// The faults of inputs that are left to be told, each by its line.
-#[derive(Drop)]
 pub struct FaultLines<'a> {
     alloc: Global,
     teller: Teller<'a>,
     faults: Faults<'a>,
+}
+
+impl Drop for FaultLines<'_> {
+    fn drop(self) {
+        let FaultLines {
+            alloc: _,
+            teller: _,
+            faults: _,
+        } = self;
+    }
 }
 
 impl<'a> Model for FaultLines<'a> {

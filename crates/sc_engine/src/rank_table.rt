@@ -13,13 +13,22 @@ use std::marker::Model;
 ///
 /// Once they have been cleared, the positions at which somebody comes to stand are noted, and the next clearing looks at
 /// these alone. So a small region of large papers costs nothing for whoever is outside.
-#[derive(Drop)]
 pub(crate) struct RankTable {
     ranks: Vec<Option<u8>>,
     // The positions at which somebody has come to stand.
     noted: Vec<usize>,
     // Whether they are noted.
     is_noting: bool,
+}
+
+impl Drop for RankTable {
+    fn drop(self) {
+        let RankTable {
+            ranks: _,
+            noted: _,
+            is_noting: _,
+        } = self;
+    }
 }
 
 impl Model for RankTable {

@@ -26,7 +26,6 @@ use std::alloc::{AllocError, Global};
 
 /// A round of proposals: who has entered and stands where, who holds each school's seats, and the
 /// rejections so far. Students and schools go by their positions in the papers.
-#[derive(Drop)]
 pub struct Round<R: Roll> {
     alloc: Global,
     // By position of the student: the rank in the choices at which the student stands, if they have
@@ -39,6 +38,19 @@ pub struct Round<R: Roll> {
     proposals: u64,
     // A growth was refused: the rest is no longer to be trusted.
     spent: bool,
+}
+
+impl<R: Roll> Drop for Round<R> {
+    fn drop(self) {
+        let Round {
+            alloc: _,
+            ranks: _,
+            rolls: _,
+            log: _,
+            proposals: _,
+            spent: _,
+        } = self;
+    }
 }
 
 impl<R: Roll> Round<R> {
@@ -219,10 +231,18 @@ impl<R: Roll> Round<R> {
         ensures proposals { IfOk result (λ settled. settled.proposals ≡ (view_of R.keys R.seats self).proposals) }
     {
         let assignment = self.assignment(papers)?;
+        let Round {
+            alloc: _,
+            ranks: _,
+            rolls: _,
+            log,
+            proposals,
+            spent: _,
+        } = self;
         Ok(Settled {
-            log: self.log,
+            log,
             assignment,
-            proposals: self.proposals,
+            proposals,
         })
     }
 }

@@ -10,7 +10,6 @@ use sc_papers::Papers;
 use std::alloc::{AllocError, Global};
 
 /// The texts of the files of an opening.
-#[derive(Drop)]
 pub struct PapersFiles {
     /// The file of the schools.
     pub schools: Vec<u8>,
@@ -18,6 +17,16 @@ pub struct PapersFiles {
     pub roster: Vec<u8>,
     /// The rank-order lists.
     pub lists: Vec<u8>,
+}
+
+impl Drop for PapersFiles {
+    fn drop(self) {
+        let PapersFiles {
+            schools: _,
+            roster: _,
+            lists: _,
+        } = self;
+    }
 }
 
 /// The files of papers: one row a school, and in each of the two others one row a student, all in order of

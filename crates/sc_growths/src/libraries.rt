@@ -13,19 +13,12 @@ use sc_report::report_text;
 use std::alloc::{AllocError, Global};
 use std::process::Abort;
 
-/// The standing of a clearing, which ends here.
-fn last_standing(alloc: Global, clearing: Clearing) -> Result<String, AllocError> {
-    let text = standing(alloc, &clearing);
-    drop(clearing);
-    text
-}
-
 /// Opens papers that a refusal gave back.
 fn open_again(rt: &impl Abort, alloc: Global, papers: Papers) -> Result<String, AllocError> {
     same(rt, &papers.students_len(), &2);
     same(rt, &papers.schools_len(), &2);
     match Clearing::open(alloc, papers) {
-        Ok(clearing) => last_standing(alloc, clearing),
+        Ok(clearing) => standing(alloc, &clearing),
         Err(_refused) => Err(AllocError),
     }
 }
@@ -41,7 +34,7 @@ fn papers_of_b(rt: &impl Abort, alloc: Global) -> Papers {
 pub fn opened(rt: &impl Abort, alloc: Global) -> Result<String, AllocError> {
     let papers = papers_of_b(rt, alloc);
     match Clearing::open(alloc, papers) {
-        Ok(clearing) => last_standing(alloc, clearing),
+        Ok(clearing) => standing(alloc, &clearing),
         Err(refused) => open_again(rt, alloc, refused.papers),
     }
 }
@@ -93,23 +86,10 @@ fn amend_once(
     standing(alloc, clearing)
 }
 
-/// Amends a clearing, which ends here.
-fn amend_opened(
-    rt: &impl Abort,
-    alloc: Global,
-    clearing: Clearing,
-    record: &str,
-) -> Result<String, AllocError> {
-    let mut clearing = clearing;
-    let left = amend_once(rt, alloc, &mut clearing, record);
-    drop(clearing);
-    left
-}
-
 pub fn amended(rt: &impl Abort, alloc: Global, record: &str) -> Result<String, AllocError> {
     let papers = papers_of_b(rt, alloc);
     match Clearing::open(alloc, papers) {
-        Ok(clearing) => amend_opened(rt, alloc, clearing, record),
+        Ok(mut clearing) => amend_once(rt, alloc, &mut clearing, record),
         Err(_refused) => Err(AllocError),
     }
 }
@@ -138,7 +118,7 @@ fn enter_unsettled(rt: &impl Abort, alloc: Global, unsettled: &mut Unsettled) {
 /// Settles papers into which the newcomer has come. A refusal gives them back.
 fn settle(rt: &impl Abort, alloc: Global, unsettled: Unsettled) -> Result<String, AllocError> {
     match unsettled.settle(alloc) {
-        Ok(clearing) => last_standing(alloc, clearing),
+        Ok(clearing) => standing(alloc, &clearing),
         Err(refused) => {
             same(rt, &refused.papers.students_len(), &3);
             Err(AllocError)
@@ -171,7 +151,6 @@ pub fn papers_read(rt: &impl Abort, alloc: Global) -> Result<String, AllocError>
     let lists = given(rt, read_lists(alloc, LISTS))?;
     let papers = given(rt, papers_of(alloc, seed(rt), &schools, &roster, &lists))?;
     let counts = (papers.schools_len(), papers.students_len());
-    drop(papers);
     format!(in alloc; "{} schools, {} students", counts.0, counts.1)
 }
 
@@ -210,9 +189,7 @@ fn verdict(rt: &impl Abort, alloc: Global, papers: &Papers) -> Result<String, Al
 
 pub fn audited(rt: &impl Abort, alloc: Global) -> Result<String, AllocError> {
     let papers = papers_of_b(rt, alloc);
-    let verdict = verdict(rt, alloc, &papers);
-    drop(papers);
-    verdict
+    verdict(rt, alloc, &papers)
 }
 
 // Without the newcomer nobody else can have school 10: the first entry is not valid.
@@ -230,11 +207,7 @@ fn stability(alloc: Global, clearing: &Clearing) -> Result<String, AllocError> {
 pub fn checked(rt: &impl Abort, alloc: Global) -> Result<String, AllocError> {
     let papers = papers_of_b(rt, alloc);
     match Clearing::open(alloc, papers) {
-        Ok(clearing) => {
-            let text = stability(alloc, &clearing);
-            drop(clearing);
-            text
-        }
+        Ok(clearing) => stability(alloc, &clearing),
         Err(_refused) => Err(AllocError),
     }
 }
@@ -254,11 +227,7 @@ fn report_of(alloc: Global, clearing: &Clearing) -> Result<String, AllocError> {
 pub fn reported(rt: &impl Abort, alloc: Global) -> Result<String, AllocError> {
     let papers = papers_of_b(rt, alloc);
     match Clearing::open(alloc, papers) {
-        Ok(clearing) => {
-            let text = report_of(alloc, &clearing);
-            drop(clearing);
-            text
-        }
+        Ok(clearing) => report_of(alloc, &clearing),
         Err(_refused) => Err(AllocError),
     }
 }
@@ -271,7 +240,7 @@ fn report(rt: HostRuntime) {
 pub fn replayed(rt: &impl Abort, alloc: Global) -> Result<String, AllocError> {
     let papers = papers_of_b(rt, alloc);
     match replay(alloc, papers, JOURNAL.as_bytes()) {
-        Ok((clearing, _tail)) => last_standing(alloc, clearing),
+        Ok((clearing, _tail)) => standing(alloc, &clearing),
         Err(fault) => {
             same(rt, &fault.cause, &JournalCause::OutOfMemory);
             Err(AllocError)

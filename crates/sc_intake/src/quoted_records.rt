@@ -11,7 +11,6 @@ use std::marker::Model;
 
 /// The records of a text: the one read last, and those that are left. One record is used again and
 /// again, so that the memory does not grow with the text.
-#[derive(Drop)]
 pub(crate) struct QuotedRecords<'a> {
     alloc: Global,
     text: &'a [u8],
@@ -20,6 +19,18 @@ pub(crate) struct QuotedRecords<'a> {
     reader: Option<Box<Reader<&'a [u8]>>>,
     fields: ByteRecord,
     stopped: bool,
+}
+
+impl Drop for QuotedRecords<'_> {
+    fn drop(self) {
+        let QuotedRecords {
+            alloc: _,
+            text: _,
+            reader: _,
+            fields: _,
+            stopped: _,
+        } = self;
+    }
 }
 
 impl<'a> Model for QuotedRecords<'a> {

@@ -9,9 +9,14 @@ use std::alloc::{AllocError, Global};
 use std::marker::Model;
 
 /// The records of a text: the one read last, and those that are left.
-#[derive(Drop)]
 pub(crate) struct Records<'a> {
     cutter: Cutter<'a>,
+}
+
+impl Drop for Records<'_> {
+    fn drop(self) {
+        let Records { cutter: _ } = self;
+    }
 }
 
 /// How a text is cut into records: line by line, until one has a quote; line by line, whatever each has; or by `csv`'s state

@@ -9,12 +9,21 @@ use std::marker::Model;
 
 /// Numbers that are all different. A number above all earlier ones joins a list, so a file in order
 /// costs a comparison a row; any other joins a tree, which no choice of numbers makes slow.
-#[derive(Drop)]
 pub(crate) struct SeenNumbers {
     rising: Vec<u32>,
     others: BTreeSet<u32>,
     // Every number is below it.
     bound: u64,
+}
+
+impl Drop for SeenNumbers {
+    fn drop(self) {
+        let SeenNumbers {
+            rising: _,
+            others: _,
+            bound: _,
+        } = self;
+    }
 }
 
 impl Model for SeenNumbers {

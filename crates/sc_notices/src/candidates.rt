@@ -12,10 +12,18 @@ use sc_papers::{Assignment, FlatPapers, Papers, SchoolNo};
 use std::alloc::{AllocError, Global};
 
 /// The keys of those who have each school, and of those who wait for it, by the school's position in the order of entry.
-#[derive(Drop)]
 pub(crate) struct Candidates {
     pub admitted: KeyLists,
     pub waiting: KeyLists,
+}
+
+impl Drop for Candidates {
+    fn drop(self) {
+        let Candidates {
+            admitted: _,
+            waiting: _,
+        } = self;
+    }
 }
 
 /// Adds the key of the student at a position of the order of entry to the list of the school that they have, if any.

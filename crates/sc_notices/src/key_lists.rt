@@ -7,9 +7,14 @@ use std::alloc::{AllocError, Global};
 use std::marker::Model;
 
 /// A list of keys for each school, by the school's position in the order of entry.
-#[derive(Drop)]
 pub(crate) struct KeyLists {
     lists: Vec<Vec<Key>>,
+}
+
+impl Drop for KeyLists {
+    fn drop(self) {
+        let KeyLists { lists: _ } = self;
+    }
 }
 
 impl Model for KeyLists {

@@ -115,10 +115,18 @@ fn cutoff_ranks(
 
 /// The ranks in the lottery: of the students, by their tickets, which stand best first, and of the student of each school's
 /// cutoff, by the school's position in the order of entry.
-#[derive(Drop)]
 pub(crate) struct Lottery {
     tickets: Vec<Key>,
     of_cutoffs: Vec<Option<u32>>,
+}
+
+impl Drop for Lottery {
+    fn drop(self) {
+        let Lottery {
+            tickets: _,
+            of_cutoffs: _,
+        } = self;
+    }
 }
 
 impl Lottery {

@@ -12,9 +12,14 @@ use std::marker::Model;
 
 /// Which students have which schools: a finite map. Each student who is put comes last in its order; where
 /// `move_to` takes a school away, the last pair takes that place.
-#[derive(Drop)]
 pub struct Assignment {
     places: IndexMap<StudentNumber, SchoolNo, SeededHash>,
+}
+
+impl Drop for Assignment {
+    fn drop(self) {
+        let Assignment { places: _ } = self;
+    }
 }
 
 impl Model for Assignment {

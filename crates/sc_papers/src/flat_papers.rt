@@ -28,7 +28,6 @@ use std::marker::Model;
 ///
 /// Look-ups by position and by a school's number take constant time. So do those by a student's number, but for papers
 /// that are not amended while the numbers rise in order of entry: these have no table of them, and are searched.
-#[derive(Drop)]
 pub struct FlatPapers {
     // The seed's draws, read where the last student who entered left them.
     lottery: Draws,
@@ -42,6 +41,19 @@ pub struct FlatPapers {
     // Where the schools of the siblings stand of students who have more than one. There is room for those of all, so that
     // a correction takes no memory.
     siblings: IndexMap<StudentNumber, PositionList, SeededHash>,
+}
+
+impl Drop for FlatPapers {
+    fn drop(self) {
+        let FlatPapers {
+            lottery: _,
+            schools: _,
+            positions: _,
+            numbers: _,
+            rows: _,
+            siblings: _,
+        } = self;
+    }
 }
 
 impl Model for FlatPapers {

@@ -35,13 +35,22 @@ use std::ops::Deref;
 /// can be lent and amended.
 ///
 /// What needs no record is asked of the flat papers that they hold, which a call on these reaches by itself.
-#[derive(Drop)]
 pub struct Papers {
     flat: FlatPapers,
     // Where each student's record lies, in order of entry.
     slots: Vec<u32>,
     // In any order, so that one that goes moves one other at most.
     records: Vec<Student>,
+}
+
+impl Drop for Papers {
+    fn drop(self) {
+        let Papers {
+            flat: _,
+            slots: _,
+            records: _,
+        } = self;
+    }
 }
 
 impl Model for Papers {

@@ -16,12 +16,23 @@ pub struct School {
 /// What the papers hold of a student: where the student lives, the schools of siblings, the rank-order
 /// list, best first, and the school at which the student continues, if there is one. It need not be among
 /// the choices.
-#[derive(Debug, Drop)]
+#[derive(Debug)]
 pub struct Student {
     pub zone: Zone,
     pub continuing: Option<SchoolNo>,
     pub siblings: SchoolList,
     pub choices: SchoolList,
+}
+
+impl Drop for Student {
+    fn drop(self) {
+        let Student {
+            zone: _,
+            continuing: _,
+            siblings: _,
+            choices: _,
+        } = self;
+    }
 }
 
 impl Student {

@@ -5,9 +5,15 @@ use std::alloc::{AllocError, Global};
 use std::marker::Model;
 
 /// Schools in an order that counts: a ranked list, best first, or the schools of siblings.
-#[derive(Debug, Drop)]
+#[derive(Debug)]
 pub struct SchoolList {
     schools: Vec<SchoolNo>,
+}
+
+impl Drop for SchoolList {
+    fn drop(self) {
+        let SchoolList { schools: _ } = self;
+    }
 }
 
 impl Model for SchoolList {

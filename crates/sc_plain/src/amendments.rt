@@ -141,7 +141,6 @@ fn stands_as_settled(rt: &impl Abort, alloc: Global, clearing: &Clearing) {
     let settled = settle(alloc, clearing.papers()).ok().expect(rt, "memory");
     has_the_log(rt, clearing, &settled);
     has_the_places(rt, clearing, &settled);
-    drop(settled);
 }
 
 /// Amends a clearing, which then stands as settled from scratch; a refusal leaves the count of its
@@ -186,7 +185,6 @@ fn amend_market(rt: &impl Abort, alloc: Global, dice: &mut Dice, schools: &[Scho
     let mut clearing = random_clearing(rt, alloc, dice, schools);
     let count = (schools.len() % 1_000) as u32;
     amend_often(rt, alloc, dice, &mut clearing, count);
-    drop(clearing);
 }
 
 /// Amends a random market many times.

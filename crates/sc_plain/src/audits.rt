@@ -342,7 +342,6 @@ fn judge_settled(
 fn judge_market(rt: &impl Abort, alloc: Global, market: &Market<'_>, papers: &Papers) {
     let settled = settle(alloc, papers).ok().expect(rt, "memory");
     judge_settled(rt, alloc, market, papers, &settled);
-    drop(settled);
 }
 
 /// The same for the papers of these schools and families.
@@ -365,7 +364,6 @@ fn judge_papers(
 fn judge_families(rt: &impl Abort, alloc: Global, schools: &[School], families: &[Family]) {
     let papers = papers_of(rt, alloc, schools, families);
     judge_papers(rt, alloc, schools, families, &papers);
-    drop(papers);
 }
 
 /// Settles a random market, and compares the auditor's verdicts with those of the plain program.

@@ -69,7 +69,6 @@ fn compare_settled(rt: &impl Abort, alloc: Global, market: &Market<'_>, settled:
 fn compare_market(rt: &impl Abort, alloc: Global, market: &Market<'_>, papers: &Papers) {
     let settled = settle(alloc, papers).ok().expect(rt, "memory");
     compare_settled(rt, alloc, market, &settled);
-    drop(settled);
 }
 
 /// The same for the papers of these schools and families.
@@ -92,7 +91,6 @@ fn compare_papers(
 fn compare_families(rt: &impl Abort, alloc: Global, schools: &[School], families: &[Family]) {
     let papers = papers_of(rt, alloc, schools, families);
     compare_papers(rt, alloc, schools, families, &papers);
-    drop(papers);
 }
 
 /// Settles a random market, and compares it with the plain program.

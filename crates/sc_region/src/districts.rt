@@ -31,12 +31,20 @@ const WIDE: usize = 8;
 ///
 /// The districts are those of some papers, and are kept in step with them. They may come to be wider than they
 /// need be: lists that have gone leave joined what they joined, until the region of an amendment is looked for there.
-#[derive(Drop)]
 pub struct Districts {
     // By the school's position, the number of its district.
     groups: Vec<usize>,
     // Likewise the students whose first choice it is, each with a guess at where they stand.
     firsts: Vec<Vec<First>>,
+}
+
+impl Drop for Districts {
+    fn drop(self) {
+        let Districts {
+            groups: _,
+            firsts: _,
+        } = self;
+    }
 }
 
 impl Model for Districts {

@@ -27,10 +27,18 @@ use std::marker::Model;
 /// The papers and the standing assignment under them, and the stamps of their records: of every clearing, the
 /// standing assignment is the student-optimal stable matching of its papers, and a log of rejections certifies
 /// it.
-#[derive(Drop)]
 pub struct Clearing {
     settlement: Settlement,
     stamps: Stamps,
+}
+
+impl Drop for Clearing {
+    fn drop(self) {
+        let Clearing {
+            settlement: _,
+            stamps: _,
+        } = self;
+    }
 }
 
 impl Model for Clearing {

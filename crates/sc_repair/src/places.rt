@@ -13,13 +13,22 @@ use std::marker::Model;
 use std::ops::Deref;
 
 /// An assignment that knows how many students have each school.
-#[derive(Drop)]
 pub(crate) struct Places {
     assignment: Assignment,
     // By the number of the school.
     counts: Vec<usize>,
     /// Where the students' pairs may stand in the assignment, by their positions in the order of entry.
     pub(crate) hints: PairHints,
+}
+
+impl Drop for Places {
+    fn drop(self) {
+        let Places {
+            assignment: _,
+            counts: _,
+            hints: _,
+        } = self;
+    }
 }
 
 impl Model for Places {

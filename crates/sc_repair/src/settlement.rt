@@ -17,7 +17,6 @@ use std::marker::Model;
 /// The papers and the standing assignment under them, with the log of rejections that certifies it, in
 /// segments, one for each student in order of entry: of every settlement, the standing assignment is the
 /// student-optimal stable matching of its papers. It knows no stamps: a `Clearing` keeps them beside it.
-#[derive(Drop)]
 pub(crate) struct Settlement {
     pub(crate) alloc: Global,
     pub(crate) papers: Papers,
@@ -33,6 +32,21 @@ pub(crate) struct Settlement {
     // Where there are some, the districts of the papers, from which the region of an amendment is found: they are
     // kept from amendment to amendment, and made again when they are wanted.
     pub(crate) districts: Option<Districts>,
+}
+
+impl Drop for Settlement {
+    fn drop(self) {
+        let Settlement {
+            alloc: _,
+            papers: _,
+            places: _,
+            segments: _,
+            proposals: _,
+            round: _,
+            spare: _,
+            districts: _,
+        } = self;
+    }
 }
 
 impl Model for Settlement {

@@ -8,12 +8,20 @@ use std::marker::Model;
 
 /// In which order students entered who stand in an order of their own: of each turn, in which one student
 /// entered, the position where that student stands, and back.
-#[derive(Drop)]
 pub(crate) struct Turns {
     // By turn; `None` where the student of the turn withdrew.
     positions: Vec<Option<usize>>,
     // By position.
     turns: Vec<usize>,
+}
+
+impl Drop for Turns {
+    fn drop(self) {
+        let Turns {
+            positions: _,
+            turns: _,
+        } = self;
+    }
 }
 
 impl Model for Turns {

@@ -22,13 +22,22 @@ use std::marker::Model;
 
 /// Papers that are amended and not settled, and the stamps of their records: for those who make many
 /// amendments, and look at no standing assignment before the last of them.
-#[derive(Drop)]
 pub struct Unsettled {
     // In an order of their own: whoever withdraws goes last before, so that nobody moves up.
     papers: Papers,
     stamps: Stamps,
     // The order of entry.
     turns: Turns,
+}
+
+impl Drop for Unsettled {
+    fn drop(self) {
+        let Unsettled {
+            papers: _,
+            stamps: _,
+            turns: _,
+        } = self;
+    }
 }
 
 impl Model for Unsettled {

@@ -27,9 +27,14 @@ struct SchoolEndings {
 }
 
 /// For each school how the lines about it end.
-#[derive(Drop)]
 pub(crate) struct Endings {
     schools: Vec<SchoolEndings>,
+}
+
+impl Drop for Endings {
+    fn drop(self) {
+        let Endings { schools: _ } = self;
+    }
 }
 
 /// Makes the ending of a school's lines with a reason, in the place of what the text held.

@@ -55,7 +55,6 @@ fn audits(rt: HostRuntime) {
 ";
     let papers = papers_of(&rt, rt.alloc(), MARKET_B_AND_NEWCOMER);
     expect_verdicts(&rt, rt.alloc(), &papers, lines);
-    drop(papers);
 }
 
 #[test]
@@ -63,7 +62,6 @@ fn an_unknown_student_or_school_is_a_bad_entry(rt: HostRuntime) {
     let papers = papers_of(&rt, rt.alloc(), MARKET_B_AND_NEWCOMER);
     let lines = "9,10 => bad entry 1\n1,10 2,77 => bad entry 2\n";
     expect_verdicts(&rt, rt.alloc(), &papers, lines);
-    drop(papers);
 }
 
 #[test]
@@ -74,7 +72,6 @@ fn a_correction_rewinds_to_the_start(rt: HostRuntime) {
     amend(&rt, rt.alloc(), &mut papers, "correct,1,0,");
     let after = "2,10 3,20 2,20 => bad entry 1\n1,10 1,20 3,20 => certified\n";
     expect_verdicts(&rt, rt.alloc(), &papers, after);
-    drop(papers);
 }
 
 /// A stability verdict in words.
@@ -118,7 +115,6 @@ fn expect_stabilities(rt: &impl Abort, alloc: Global, papers: &FlatPapers, lines
 fn expect_stabilities_of(rt: &impl Abort, alloc: Global, files: Files<'_>, lines: &str) {
     let papers = papers_of(rt, alloc, files);
     expect_stabilities(rt, alloc, &papers, lines);
-    drop(papers);
 }
 
 #[test]

@@ -64,7 +64,6 @@ fn walk(rt: &impl Abort, alloc: Global, files: Files<'_>, opening: &str, script:
         let (record, want) = wanted_of(rt, line);
         expect_left(rt, alloc, &mut clearing, record, want);
     }
-    drop(clearing);
 }
 
 #[test]
@@ -211,7 +210,6 @@ fn a_region_apart(rt: HostRuntime) {
     let mut clearing = open(&rt, rt.alloc(), TWO_REGIONS);
     expect_places(&rt, rt.alloc(), &clearing, "1:10 2:20 6:0 7:30 ");
     expect_newcomer_beside_a_region(&rt, rt.alloc(), &mut clearing);
-    drop(clearing);
 }
 
 #[test]
@@ -224,7 +222,6 @@ fn rerank_in_its_region(rt: HostRuntime) {
     expect_region(&rt, rt.alloc(), &clearing, record, "1 2 3 ");
     let want = "ok, 5: 1:20 2:0 6:0 7:30 3:10 |(6,30)(1,10)(2,20)(2,10)";
     expect_left(&rt, rt.alloc(), &mut clearing, record, want);
-    drop(clearing);
 }
 
 #[test]
@@ -263,7 +260,6 @@ fn expect_the_same_key(rt: &impl Abort, alloc: Global, clearing: &mut Clearing) 
 fn withdraw_and_return_with_the_same_key(rt: HostRuntime) {
     let mut clearing = open(&rt, rt.alloc(), TWO_STUDENTS);
     expect_the_same_key(&rt, rt.alloc(), &mut clearing);
-    drop(clearing);
 }
 
 #[test]
@@ -356,5 +352,4 @@ fn expect_read_back(rt: &impl Abort, clearing: &Clearing) {
 fn one_seat_two_students(rt: HostRuntime) {
     let clearing = open(&rt, rt.alloc(), TWO_STUDENTS);
     expect_read_back(&rt, &clearing);
-    drop(clearing);
 }

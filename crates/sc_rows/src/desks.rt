@@ -71,7 +71,6 @@ fn walk(rt: &impl Abort, alloc: Global, script: &str) {
         let left = left_by(rt, alloc, &mut clearing, record);
         expect_answered(rt, record, left, want);
     }
-    drop(clearing);
 }
 
 #[test]

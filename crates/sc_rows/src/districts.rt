@@ -180,9 +180,7 @@ fn expect_regions(rt: &impl Abort, alloc: Global, papers: &mut Papers) -> Result
 
 fn expect_regions_of_market(rt: &impl Abort, alloc: Global) -> Result<(), Refusal> {
     let mut papers = papers_of(rt, alloc, MARKET);
-    let answer = expect_regions(rt, alloc, &mut papers);
-    drop(papers);
-    answer
+    expect_regions(rt, alloc, &mut papers)
 }
 
 #[test]
@@ -204,9 +202,7 @@ fn expect_moves(rt: &impl Abort, alloc: Global, papers: &mut Papers) -> Result<(
 
 fn expect_moves_of_market(rt: &impl Abort, alloc: Global) -> Result<(), Refusal> {
     let mut papers = papers_of(rt, alloc, MARKET);
-    let answer = expect_moves(rt, alloc, &mut papers);
-    drop(papers);
-    answer
+    expect_moves(rt, alloc, &mut papers)
 }
 
 #[test]

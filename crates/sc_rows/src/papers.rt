@@ -26,7 +26,6 @@ fn expect_choices(rt: &impl Abort, student: &Student) {
 fn expect_student_copied(rt: &impl Abort, alloc: Global, student: &Student) {
     let again = student.copy(alloc).expect(rt, "memory");
     expect_choices(rt, &again);
-    drop(again);
 }
 
 fn expect_students(rt: &impl Abort, alloc: Global, papers: &Papers) {
@@ -45,7 +44,6 @@ fn schools_and_students_are_read_back(rt: HostRuntime) {
     let papers = papers_of(&rt, rt.alloc(), MARKET_B);
     expect_schools(&rt, &papers);
     expect_students(&rt, rt.alloc(), &papers);
-    drop(papers);
 }
 
 /// The student at this position has this number, and has at school 10 a key of this class and draw.
@@ -79,7 +77,6 @@ fn keys_by_class_draw_and_number(rt: HostRuntime) {
     };
     let papers = papers_of(&rt, rt.alloc(), files);
     expect_keys(&rt, &papers);
-    drop(papers);
 }
 
 fn leave_and_return(rt: &impl Abort, alloc: Global, papers: &mut Papers) {
@@ -97,7 +94,6 @@ fn leave_and_return(rt: &impl Abort, alloc: Global, papers: &mut Papers) {
 fn withdraw_and_return(rt: HostRuntime) {
     let mut papers = papers_of(&rt, rt.alloc(), MARKET_B);
     leave_and_return(&rt, rt.alloc(), &mut papers);
-    drop(papers);
 }
 
 fn expect_changed(rt: &impl Abort, copy: &Papers) {
@@ -120,7 +116,6 @@ fn change_and_copy(rt: &impl Abort, alloc: Global, papers: &mut Papers) {
 fn changes_keep_the_place_and_the_rest(rt: HostRuntime) {
     let mut papers = papers_of(&rt, rt.alloc(), MARKET_B);
     change_and_copy(&rt, rt.alloc(), &mut papers);
-    drop(papers);
 }
 
 fn expect_assigned(rt: &impl Abort, copy: &Assignment) {
@@ -140,7 +135,6 @@ fn expect_assigned_in_a_copy(rt: &impl Abort, assignment: &Assignment) {
 fn an_assignment_is_a_map(rt: HostRuntime) {
     let assignment = assignment(rt.alloc(), "2,10\n1,20\n2,30\n").expect(&rt, "pairs");
     expect_assigned_in_a_copy(&rt, &assignment);
-    drop(assignment);
 }
 
 /// The papers have so many students, and make the amendment.
@@ -174,5 +168,4 @@ fn each_growth_refused(rt: HostRuntime) {
     let mut papers = papers_of(&rt, rt.alloc(), MARKET_B);
     let script = "enter,3,1,10,10\nrerank,1,20\ncorrect,2,1,20\nwithdraw,1\nadd,10,1\nclose,10,1\n";
     amend_each_or_keep(&rt, rt.alloc(), &mut papers, script);
-    drop(papers);
 }

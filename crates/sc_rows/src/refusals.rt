@@ -45,7 +45,6 @@ fn refusals_of_schools(rt: HostRuntime) {
     drop(papers);
     let mut closed = papers_of(&rt, rt.alloc(), MARKET_B);
     expect_school(&rt, &mut closed, 30, Err(SchoolRefusal::SchoolsClosed));
-    drop(closed);
 }
 
 /// The entry of a student who lists school 10 alone.
@@ -83,7 +82,6 @@ fn the_roster_is_full(rt: HostRuntime) {
     let mut papers = zero_papers(&rt, rt.alloc());
     expect_school(&rt, &mut papers, 10, Ok(()));
     fill_with_students(&rt, rt.alloc(), &mut papers);
-    drop(papers);
 }
 
 /// What the papers answer to an amendment: its refusal, or `ok`.
@@ -126,7 +124,6 @@ fn expect_of_market_b(rt: &impl Abort, alloc: Global, script: &str, left: u32) {
     let mut papers = papers_of(rt, alloc, MARKET_B);
     expect_answers(rt, alloc, &mut papers, script);
     expect_two_students(rt, &papers, left);
-    drop(papers);
 }
 
 /// A list's schools as a text: `10 20 `.
@@ -190,7 +187,6 @@ add,77,1 => UnknownSchool 77
         expect_answers(&rt, rt.alloc(), &mut papers, line);
         expect_unchanged(&rt, rt.alloc(), &papers);
     }
-    drop(papers);
 }
 
 /// The refusal has this text.

@@ -54,7 +54,6 @@ fn expect_region(rt: &impl Abort, alloc: Global, papers: &FlatPapers, record: &s
 fn a_student_enters(rt: HostRuntime) {
     let papers = papers_of(&rt, rt.alloc(), MARKET);
     expect_region(&rt, rt.alloc(), &papers, "enter,3,0,,10", &[1, 2, 3]);
-    drop(papers);
 }
 
 // Whoever is corrected names schools that others list, as a sibling's and as the one to continue at: the region is
@@ -71,7 +70,6 @@ fn expect_regions(rt: &impl Abort, alloc: Global, papers: &FlatPapers) {
 fn a_student_or_a_school_changes(rt: HostRuntime) {
     let papers = papers_of(&rt, rt.alloc(), MARKET);
     expect_regions(&rt, rt.alloc(), &papers);
-    drop(papers);
 }
 
 fn expect_refusal(rt: &impl Abort, alloc: Global, papers: &FlatPapers) {
@@ -88,5 +86,4 @@ fn expect_refusal(rt: &impl Abort, alloc: Global, papers: &FlatPapers) {
 fn an_unknown_student_is_refused(rt: HostRuntime) {
     let papers = papers_of(&rt, rt.alloc(), MARKET);
     expect_refusal(&rt, rt.alloc(), &papers);
-    drop(papers);
 }

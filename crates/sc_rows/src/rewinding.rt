@@ -50,7 +50,6 @@ withdraw,99 => UnknownStudent
 ";
     let papers = papers_of(&rt, rt.alloc(), files);
     expect_points(&rt, rt.alloc(), &papers, script);
-    drop(papers);
 }
 
 #[test]
@@ -62,5 +61,4 @@ enter,3,1,10,10 => 2
 ";
     let papers = papers_of(&rt, rt.alloc(), MARKET_B_CONTINUING);
     expect_points(&rt, rt.alloc(), &papers, script);
-    drop(papers);
 }

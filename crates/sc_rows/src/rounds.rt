@@ -61,7 +61,6 @@ fn expect_settled(
 ) {
     let settled = settled.expect(rt, "memory");
     expect_said(rt, "a settling", settled_text(alloc, &settled), want);
-    drop(settled);
 }
 
 /// Both kinds of rolls came to what is wanted.
@@ -81,7 +80,6 @@ fn one_seat_two_students(rt: HostRuntime) {
     let papers = papers_of(&rt, rt.alloc(), TWO_STUDENTS);
     let settled = settle(rt.alloc(), &papers);
     expect_settled(&rt, rt.alloc(), settled, "(1,1) 2: 2 at 1");
-    drop(papers);
 }
 
 #[test]
@@ -90,7 +88,6 @@ fn a_newcomer(rt: HostRuntime) {
     let settled = settle(rt.alloc(), &papers);
     let want = "(1,10)(2,20)(2,10) 5: 1 at 20 3 at 10";
     expect_settled(&rt, rt.alloc(), settled, want);
-    drop(papers);
 }
 
 /// The outcome by the keys at the first choices.
@@ -98,14 +95,12 @@ fn expect_placed(rt: &impl Abort, alloc: Global, papers: &FlatPapers, want: &str
     let settled = settle_by_first_keys(alloc, papers).expect(rt, "memory");
     let said = placed_text(alloc, papers, settled.places.as_slice());
     expect_said(rt, "places", said, want);
-    drop(settled);
 }
 
 /// The outcome by the order of entry.
 fn expect_outcome(rt: &impl Abort, alloc: Global, papers: &FlatPapers, want: &str) {
     let settled = settle(alloc, papers).expect(rt, "memory");
     expect_said(rt, "an outcome", outcome_text(alloc, &settled), want);
-    drop(settled);
 }
 
 /// Settles a market by the keys at the first choices, which comes to the same outcome as the order of entry.
@@ -113,7 +108,6 @@ fn expect_by_first_keys(rt: &impl Abort, alloc: Global, files: Files<'_>, want: 
     let papers = papers_of(rt, alloc, files);
     expect_placed(rt, alloc, &papers, want);
     expect_outcome(rt, alloc, &papers, want);
-    drop(papers);
 }
 
 #[test]
@@ -203,7 +197,6 @@ fn a_newcomer_to_a_round_in_old_memory(rt: HostRuntime) {
     let sorted = resume_again_with_the_third::<SortedRoll>(rt.alloc(), &papers);
     let heap = resume_again_with_the_third::<HeapRoll>(rt.alloc(), &papers);
     expect_both(&rt, rt.alloc(), sorted, heap, want);
-    drop(papers);
 }
 
 /// Enters all students, the last one first.
@@ -252,7 +245,6 @@ fn entry_in_order(rt: HostRuntime) {
     let sorted = settle_forwards::<SortedRoll>(rt.alloc(), &papers);
     let heap = settle_forwards::<HeapRoll>(rt.alloc(), &papers);
     expect_both(&rt, rt.alloc(), sorted, heap, want);
-    drop(papers);
 }
 
 #[test]
@@ -262,7 +254,6 @@ fn entry_in_reverse(rt: HostRuntime) {
     let sorted = settle_backwards::<SortedRoll>(rt.alloc(), &papers);
     let heap = settle_backwards::<HeapRoll>(rt.alloc(), &papers);
     expect_both(&rt, rt.alloc(), sorted, heap, want);
-    drop(papers);
 }
 
 /// A spent round stays spent.
@@ -323,9 +314,7 @@ fn spend(
         expect_unsettled(rt, papers, round);
         return Err(AllocError);
     }
-    let answer = expect_entered(rt, papers, &round, one);
-    drop(round);
-    answer
+    expect_entered(rt, papers, &round, one)
 }
 
 /// Spends a round of these papers, if the student is in them.
@@ -350,5 +339,4 @@ fn a_spent_round(rt: HostRuntime) {
     if spend_one(&rt, rt.alloc(), &papers).is_err() {
         spend_one(&rt, rt.alloc(), &papers).expect(&rt, "memory");
     }
-    drop(papers);
 }

@@ -150,7 +150,6 @@ fn expect_cuts(rt: &impl Abort, segments: &Segments)
 fn segments_are_cut_where_students_enter(rt: HostRuntime) {
     let segments = segments_of_three(&rt, rt.alloc());
     expect_cuts(&rt, &segments);
-    drop(segments);
 }
 
 /// Pushes the third student's first rejection behind the first two.
@@ -173,14 +172,12 @@ fn expect_copies(rt: &impl Abort, segments: &Segments)
     same(rt, &prefix.len(), &0);
     let mut rewound = segments.copy_prefix(2).expect(rt, "memory");
     push_one(rt, &mut rewound);
-    drop(rewound);
 }
 
 #[test]
 fn checkpoints_are_copied(rt: HostRuntime) {
     let segments = segments_of_three(&rt, rt.alloc());
     expect_copies(&rt, &segments);
-    drop(segments);
 }
 
 /// The students stand at these schools, in order: 0 is none.
@@ -237,14 +234,12 @@ fn expect_of_papers(rt: &impl Abort, alloc: Global, segments: &Segments)
     if expect_next_choices(rt, &papers, segments).is_err() {
         expect_next_choices(rt, &papers, segments).expect(rt, "memory");
     }
-    drop(papers);
 }
 
 #[test]
 fn students_stand_at_their_next_choices(rt: HostRuntime) {
     let segments = segments_of_three(&rt, rt.alloc());
     expect_of_papers(&rt, rt.alloc(), &segments);
-    drop(segments);
 }
 
 /// A round that goes on from where the first two students stand after their segments, and which the third enters, has
@@ -258,14 +253,12 @@ fn expect_resumed(rt: &impl Abort, alloc: Global, segments: &Segments)
     let sorted = resume_with_the_third::<SortedRoll>(rt, alloc, &papers, told.as_slice());
     let heap = resume_with_the_third::<HeapRoll>(rt, alloc, &papers, told.as_slice());
     expect_both(rt, alloc, sorted, heap, want);
-    drop(papers);
 }
 
 #[test]
 fn a_round_goes_on_from_a_checkpoint(rt: HostRuntime) {
     let segments = segments_of_three(&rt, rt.alloc());
     expect_resumed(&rt, rt.alloc(), &segments);
-    drop(segments);
 }
 
 /// Of the last chain, the first rejection as the segment of the first student, and the others as that of the third.
@@ -318,7 +311,6 @@ fn renew(rt: &impl Abort, alloc: Global, segments: &mut Segments)
 fn segments_give_way_to_renewed_ones(rt: HostRuntime) {
     let mut segments = segments_of_three(&rt, rt.alloc());
     renew(&rt, rt.alloc(), &mut segments);
-    drop(segments);
 }
 
 /// How many a call gave, or as many as are wanted where memory was refused.
@@ -389,5 +381,4 @@ fn expect_growths(rt: &impl Abort, alloc: Global, segments: &mut Segments)
 fn each_growth_refused(rt: HostRuntime) {
     let mut segments = segments_of_three(&rt, rt.alloc());
     expect_growths(&rt, rt.alloc(), &mut segments);
-    drop(segments);
 }

@@ -54,7 +54,6 @@ fn each_there_and_back(rt: &impl Abort, alloc: Global, papers: &mut Papers) {
 fn amendments_are_taken_back(rt: HostRuntime) {
     let mut papers = papers_of(&rt, rt.alloc(), MARKET_B);
     each_there_and_back(&rt, rt.alloc(), &mut papers);
-    drop(papers);
 }
 
 fn move_about(rt: &impl Abort, assignment: &mut Assignment) {
@@ -73,5 +72,4 @@ fn move_about(rt: &impl Abort, assignment: &mut Assignment) {
 fn students_of_an_assignment_move(rt: HostRuntime) {
     let mut assignment = assignment(rt.alloc(), "1,20\n2,10\n3,10\n").expect(&rt, "pairs");
     move_about(&rt, &mut assignment);
-    drop(assignment);
 }

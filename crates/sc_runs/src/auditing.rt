@@ -105,13 +105,8 @@ fn answer_papers<W: Write>(
 ) -> Result<Audited, RunFault>
     ensures { OutputGets (WritesAudit (claimed_in (Ok papers) (log_in log.now))) W.contents out.old out.new result }
 {
-    match audit_papers(alloc, &papers, log, out) {
-        Ok(verdict) => Ok(Audited { papers, verdict }),
-        Err(fault) => {
-            drop(papers);
-            Err(fault)
-        }
-    }
+    let verdict = audit_papers(alloc, &papers, log, out)?;
+    Ok(Audited { papers, verdict })
 }
 
 /// Audits a log under the papers that the texts hold. The texts are given up once the papers are read.
@@ -125,10 +120,8 @@ fn audit_texts<W: Write>(
     ensures { OutputGets (WritesAudit (claimed_in (opening_in seed.now (texts_of texts)) (log_in log.now)))
         W.contents out.old out.new result }
 {
-    match read_owned(alloc, seed, texts) {
-        Ok(papers) => answer_papers(alloc, papers, log, out),
-        Err(fault) => Err(fault),
-    }
+    let papers = read_owned(alloc, seed, texts)?;
+    answer_papers(alloc, papers, log, out)
 }
 
 /// Reads the three files and a log, in the order schools, roster, lists, log, audits the log under the

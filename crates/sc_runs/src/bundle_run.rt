@@ -75,14 +75,7 @@ fn report_read<W: Write>(
         → WritesMatch false reading old new result) W.contents out.old out.new result }
     ensures no_journal { is_journal_fault result ≡ false }
 {
-    match read {
-        Ok(papers) => {
-            let written = report_papers(alloc, &papers, out);
-            drop(papers);
-            written
-        }
-        Err(fault) => Err(fault),
-    }
+    report_papers(alloc, &read?, out)
 }
 
 /// How running the sections of a bundle ends.

@@ -76,16 +76,10 @@ fn places_after(
     ensures places { IfOk result (λ places. ArePlacesAfter (papers_held seed.now texts.entry) lines.now places.items) }
     ensures refused { IfErr result (IsStandingFault (papers_held seed.now texts.entry) lines.now) }
 {
-    match clearing_after(alloc, seed, texts, lines) {
-        Ok((clearing, _)) => {
-            let places = standing_places(alloc, &clearing);
-            drop(clearing);
-            match places {
-                Ok(places) => Ok(places),
-                Err(_) => Err(RunFault::OutOfMemory),
-            }
-        }
-        Err(fault) => Err(fault),
+    let (clearing, _) = clearing_after(alloc, seed, texts, lines)?;
+    match standing_places(alloc, &clearing) {
+        Ok(places) => Ok(places),
+        Err(_) => Err(RunFault::OutOfMemory),
     }
 }
 
@@ -120,17 +114,9 @@ fn change_from<W: Write>(
     ensures { OutputGets (WritesOfStanding (IsChangeFrom before.now) (papers_held seed.now texts.entry) journal.now)
         W.contents out.old out.new result }
 {
-    match clearing_after(alloc, seed, texts, journal) {
-        Ok((clearing, tail)) => {
-            let written = write_changes(alloc, before, &clearing, out);
-            drop(clearing);
-            match written {
-                Ok(()) => Ok(tail),
-                Err(fault) => Err(fault),
-            }
-        }
-        Err(fault) => Err(fault),
-    }
+    let (clearing, tail) = clearing_after(alloc, seed, texts, journal)?;
+    write_changes(alloc, before, &clearing, out)?;
+    Ok(tail)
 }
 
 /// Writes whose place changed after the first lines of a journal over the papers that the texts hold.
@@ -151,9 +137,7 @@ fn change_since<W: Write>(
         Ok(before) => before,
         Err(fault) => return Err(fault),
     };
-    let written = change_from(alloc, seed, texts, journal, before.as_slice(), out);
-    drop(before);
-    match written {
+    match change_from(alloc, seed, texts, journal, before.as_slice(), out) {
         Ok(tail) => Ok(Changed::Written { tail }),
         Err(fault) => Err(fault),
     }
@@ -173,13 +157,8 @@ fn answer_no_line(
         bytes bytes result }
     ensures failed { is_output_fault result ≡ false }
 {
-    match clearing_after(alloc, seed, texts, journal) {
-        Ok((clearing, _)) => {
-            drop(clearing);
-            Ok(Changed::NoLine { line })
-        }
-        Err(fault) => Err(fault),
-    }
+    clearing_after(alloc, seed, texts, journal)?;
+    Ok(Changed::NoLine { line })
 }
 
 /// Writes whose place changed after the first lines of a journal, so many, over the papers that the texts hold, or

@@ -115,9 +115,7 @@ fn check_texts<W: Write>(
     ) {
         Ok(faults) => {
             let mut lines = FaultLines::new(alloc, files_of(names, texts, script), faults);
-            let checked = write_faults(alloc, &mut lines, out);
-            drop(lines);
-            checked
+            write_faults(alloc, &mut lines, out)
         }
         Err(_) => Err(RunFault::OutOfMemory),
     }

@@ -41,18 +41,9 @@ fn files_of(alloc: Global, papers: &Papers) -> Result<PapersFiles, RunFault>
 fn export_after(alloc: Global, papers: Papers, journal: &[u8]) -> Result<Exported, RunFault>
     ensures { ExportsStanding (Ok papers) journal.now result }
 {
-    match replay_papers(alloc, papers, journal) {
-        Ok((amended, tail)) => {
-            let papers = amended.into_papers();
-            let files = files_of(alloc, &papers);
-            drop(papers);
-            match files {
-                Ok(files) => Ok(Exported { files, tail }),
-                Err(fault) => Err(fault),
-            }
-        }
-        Err(fault) => Err(RunFault::from(fault)),
-    }
+    let (amended, tail) = replay_papers(alloc, papers, journal)?;
+    let files = files_of(alloc, &amended.into_papers())?;
+    Ok(Exported { files, tail })
 }
 
 /// The files of the papers that the texts hold, as they stand after a journal.
@@ -64,10 +55,8 @@ fn export_texts(
 ) -> Result<Exported, RunFault>
     ensures { ExportsStanding (opening_in seed.now (texts_of texts)) journal.now result }
 {
-    match read_kept(alloc, seed, texts) {
-        Ok(papers) => export_after(alloc, papers, journal),
-        Err(fault) => Err(fault),
-    }
+    let papers = read_kept(alloc, seed, texts)?;
+    export_after(alloc, papers, journal)
 }
 
 /// Reads the three files and a journal, if there is one, in the order schools, roster, lists, journal, makes the

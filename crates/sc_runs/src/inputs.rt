@@ -26,11 +26,20 @@ pub struct Inputs<R> {
 }
 
 /// The texts of an opening's files, each read whole.
-#[derive(Drop)]
 pub struct OpeningTexts {
     pub schools: Vec<u8>,
     pub roster: Vec<u8>,
     pub lists: Vec<u8>,
+}
+
+impl Drop for OpeningTexts {
+    fn drop(self) {
+        let OpeningTexts {
+            schools: _,
+            roster: _,
+            lists: _,
+        } = self;
+    }
 }
 
 /// The texts of a call's inputs, each read whole: the files of an opening, and the input after them.

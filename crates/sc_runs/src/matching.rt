@@ -45,17 +45,9 @@ fn match_texts<W: Write>(
         W.contents out.old out.new result }
     ensures papers { IfOk result (λ papers. opening_in seed.now (texts_of texts) ≡ Ok papers) }
 {
-    let papers = match read_owned(alloc, seed, texts) {
-        Ok(papers) => papers,
-        Err(fault) => return Err(fault),
-    };
-    match match_papers(alloc, &papers, show_log, out) {
-        Ok(()) => Ok(papers),
-        Err(fault) => {
-            drop(papers);
-            Err(fault)
-        }
-    }
+    let papers = read_owned(alloc, seed, texts)?;
+    match_papers(alloc, &papers, show_log, out)?;
+    Ok(papers)
 }
 
 /// Reads the three files, in the order schools, roster, lists, and writes the report of their papers, or

@@ -127,14 +127,8 @@ fn notice_texts<S: Subject, W: Write>(
     ensures { OutputGets (TellsStanding S.notice asked (papers_held seed.now texts.entry) journal.now)
         W.contents out.old out.new result }
 {
-    match clearing_after(alloc, seed, texts, journal) {
-        Ok((clearing, tail)) => {
-            let told = notice_standing(alloc, &clearing, asked, tail, out);
-            drop(clearing);
-            told
-        }
-        Err(fault) => Err(fault),
-    }
+    let (clearing, tail) = clearing_after(alloc, seed, texts, journal)?;
+    notice_standing(alloc, &clearing, asked, tail, out)
 }
 
 /// Reads the three files and a journal, if there is one, and writes a notice of what then stands, as `explain_files` and

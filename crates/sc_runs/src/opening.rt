@@ -41,9 +41,7 @@ pub fn read_owned(alloc: Global, seed: &Seed, texts: OpeningTexts) -> Result<Fla
         (λ papers. opening_in seed.now (texts_of texts) ≡ Ok papers)
         (IsOpeningFault (opening_in seed.now (texts_of texts))) }
 {
-    let papers = read_flat(alloc, seed, texts.as_slices());
-    drop(texts);
-    papers
+    read_flat(alloc, seed, texts.as_slices())
 }
 
 /// The papers that the texts hold, or their first fault. The texts are given up before the students' records are made.

@@ -202,14 +202,8 @@ fn audit_texts<R: Read, W: Write>(
     ensures { OutputGets (WritesFinding (claimed_in (opening_in seed.now (texts_of texts)) (log_in log.now))
         (turn_of R.remaining input.Report report.old report.new)) W.contents out.old out.new result }
 {
-    match read_owned(alloc, seed, texts) {
-        Ok(papers) => {
-            let finding = audit_papers(alloc, &papers, log, report, out);
-            drop(papers);
-            finding
-        }
-        Err(fault) => Err(fault),
-    }
+    let papers = read_owned(alloc, seed, texts)?;
+    audit_papers(alloc, &papers, log, report, out)
 }
 
 /// Reads the three files and a log, in the order schools, roster, lists, log, and audits the log under the papers that the

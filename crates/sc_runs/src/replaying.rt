@@ -45,10 +45,7 @@ fn report_amended<W: Write>(
     prove!(papers.students_len() <= MOST_STUDENTS);
     match report_papers(alloc, &papers, out) {
         Ok(()) => Ok(Replayed { papers, tail }),
-        Err(fault) => {
-            drop(papers);
-            Err(fault)
-        }
+        Err(fault) => Err(fault),
     }
 }
 
@@ -61,10 +58,8 @@ fn report_replayed<W: Write>(
 ) -> Result<Replayed, RunFault>
     ensures { OutputGets (WritesReplay (Ok papers) journal.now) W.contents out.old out.new result }
 {
-    match replay_papers(alloc, papers, journal) {
-        Ok((amended, tail)) => report_amended(alloc, amended, tail, out),
-        Err(fault) => Err(RunFault::from(fault)),
-    }
+    let (amended, tail) = replay_papers(alloc, papers, journal)?;
+    report_amended(alloc, amended, tail, out)
 }
 
 /// Replays a journal over the papers that the texts hold. The texts are given up once the papers are read.
@@ -78,10 +73,8 @@ fn replay_texts<W: Write>(
     ensures { OutputGets (WritesReplay (opening_in seed.now (texts_of texts)) journal.now)
         W.contents out.old out.new result }
 {
-    match read_kept(alloc, seed, texts) {
-        Ok(papers) => report_replayed(alloc, papers, journal, out),
-        Err(fault) => Err(fault),
-    }
+    let papers = read_kept(alloc, seed, texts)?;
+    report_replayed(alloc, papers, journal, out)
 }
 
 /// Reads the three files and a journal, in the order schools, roster, lists, journal, makes the amendments

@@ -73,11 +73,7 @@ fn settle_and_finish<A: Amendable, W: Write, J: Recorder>(
         J.contents J.has_failed journal.old journal.new W.contents out.old out.new result }
 {
     match amended.settle(alloc) {
-        Ok(clearing) => {
-            let written = finish(alloc, &clearing, out, journal);
-            drop(clearing);
-            written
-        }
+        Ok(clearing) => finish(alloc, &clearing, out, journal),
         Err(_) => Err(RunFault::OutOfMemory),
     }
 }

@@ -46,11 +46,7 @@ pub fn log_papers<W: Write>(
     ensures { OutputGets (WritesText (IsCertificate papers.now)) W.contents out.old out.new result }
 {
     match settle(alloc, papers) {
-        Ok(settled) => {
-            let written = write_log(alloc, settled.log.as_slice(), out);
-            drop(settled);
-            written
-        }
+        Ok(settled) => write_log(alloc, settled.log.as_slice(), out),
         Err(_) => Err(RunFault::OutOfMemory),
     }
 }

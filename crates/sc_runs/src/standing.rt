@@ -27,12 +27,7 @@ pub fn clearing_after(
     ensures certified { IfOk result (λ stood. IsCertified stood.0.standing) }
     ensures refused { IfErr result (IsStandingFault (papers_held seed.now texts.entry) journal.now) }
 {
-    let papers = match read_papers(alloc, seed, texts) {
-        Ok(papers) => papers,
-        Err(fault) => return Err(fault),
-    };
-    match replay(alloc, papers, journal) {
-        Ok(stood) => Ok(stood),
-        Err(fault) => Err(RunFault::from(fault)),
-    }
+    let papers = read_papers(alloc, seed, texts)?;
+    let stood = replay(alloc, papers, journal)?;
+    Ok(stood)
 }

@@ -73,17 +73,9 @@ fn tell_texts<W: Write>(
     ensures { OutputGets (WritesOfStanding (IsStandingText which) (papers_held seed.now texts.entry) journal.now)
         W.contents out.old out.new result }
 {
-    match clearing_after(alloc, seed, texts, journal) {
-        Ok((clearing, tail)) => {
-            let written = write_standing_text(alloc, &clearing, which, out);
-            drop(clearing);
-            match written {
-                Ok(()) => Ok(tail),
-                Err(fault) => Err(fault),
-            }
-        }
-        Err(fault) => Err(fault),
-    }
+    let (clearing, tail) = clearing_after(alloc, seed, texts, journal)?;
+    write_standing_text(alloc, &clearing, which, out)?;
+    Ok(tail)
 }
 
 /// Reads the three files and a journal, if there is one, and writes a text of what then stands, as `summary_files` and

@@ -14,11 +14,20 @@ use std::marker::Model;
 /// is refused a comparison. One that puts out another key costs the logarithm of the seats, and the first such one the
 /// seats, since it makes the heap.
 /// A full roll takes no memory for an offer.
-#[derive(Drop)]
 pub struct HeapRoll {
     alloc: Global,
     held: Held,
     capacity: Seats,
+}
+
+impl Drop for HeapRoll {
+    fn drop(self) {
+        let HeapRoll {
+            alloc: _,
+            held: _,
+            capacity: _,
+        } = self;
+    }
 }
 
 impl Model for HeapRoll {

@@ -10,10 +10,18 @@ use std::alloc::{AllocError, Global};
 use std::marker::Model;
 
 /// A roll kept as a sorted list. An offer moves as many keys as are behind the key.
-#[derive(Drop)]
 pub struct SortedRoll {
     keys: Vec<HeldKey>,
     capacity: Seats,
+}
+
+impl Drop for SortedRoll {
+    fn drop(self) {
+        let SortedRoll {
+            keys: _,
+            capacity: _,
+        } = self;
+    }
 }
 
 impl Model for SortedRoll {

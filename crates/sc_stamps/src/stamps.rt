@@ -10,12 +10,21 @@ use std::marker::Model;
 /// The stamps of the records of papers, four bytes a record, and how many amendments were accepted.
 ///
 /// They belong to papers that their owner keeps beside them, and lends to each call that reads them.
-#[derive(Drop)]
 pub struct Stamps {
     accepted: Stamp,
     // Of each student, and of each school, in order of entry.
     students: Vec<Stamp>,
     schools: Vec<Stamp>,
+}
+
+impl Drop for Stamps {
+    fn drop(self) {
+        let Stamps {
+            accepted: _,
+            students: _,
+            schools: _,
+        } = self;
+    }
 }
 
 impl Model for Stamps {

@@ -124,7 +124,6 @@ fn expect_after(
     let mut clearing = clearing(alloc, schools, roster, lists).expect(rt, "a clearing");
     amend(rt, alloc, &mut clearing, records);
     expect_told(rt, alloc, &clearing, table);
-    drop(clearing);
 }
 
 /// The clearing of these papers shows what is wanted.
@@ -282,5 +281,4 @@ fn audits(rt: HostRuntime) {
     let mut clearing = clearing(rt.alloc(), schools, roster, lists).expect(&rt, "a clearing");
     amend(&rt, rt.alloc(), &mut clearing, "enter,3,1,10,10\n");
     expect_log(&rt, rt.alloc(), &clearing, "1,10\n2,20\n2,10\n");
-    drop(clearing);
 }

@@ -56,12 +56,17 @@ impl<R: Roll> Round<R> {
     pub(crate) fn again(self, papers: &FlatPapers) -> Result<Self, AllocError>
         ensures { IfOk result (IsFresh R.keys R.seats papers.now) }
     {
-        let mut ranks = self.ranks;
+        let Round {
+            alloc,
+            mut ranks,
+            mut rolls,
+            mut log,
+            proposals: _,
+            spent: _,
+        } = self;
         ranks.clear(papers.students_len());
-        let mut rolls = self.rolls;
-        renew_rolls(self.alloc, &mut rolls, papers)?;
-        let mut log = self.log;
+        renew_rolls(alloc, &mut rolls, papers)?;
         log.clear();
-        Ok(Round::of_parts(papers, self.alloc, ranks, rolls, log))
+        Ok(Round::of_parts(papers, alloc, ranks, rolls, log))
     }
 }

@@ -12,13 +12,22 @@ use std::alloc::{AllocError, Global};
 use std::marker::Model;
 
 /// Different numbers in order of entry, and where each of them stands.
-#[derive(Drop)]
 pub(crate) struct NumberTable {
     order: Vec<StudentNumber>,
     // The same numbers, each found by its hash. They stand in any order, so that one that goes moves one other at most.
     slots: IndexSet<StudentNumber, SeededHash>,
     // Where the number of each slot stands in the order of entry.
     positions: Vec<u32>,
+}
+
+impl Drop for NumberTable {
+    fn drop(self) {
+        let NumberTable {
+            order: _,
+            slots: _,
+            positions: _,
+        } = self;
+    }
 }
 
 impl Model for NumberTable {

@@ -16,24 +16,24 @@ returns-in-Err g c = record {
   failed = search rules;
 }
 
-pub returns-in-Ok-written : goal.returns-in-Ok-written
-returns-in-Ok-written g c = record {
+pub returns-in-Ok-change_from : goal.returns-in-Ok-change_from
+returns-in-Ok-change_from g c = record {
   bytes = λ since first.
       let reading = papers_in c.args.seed.now c.args.texts.schools.now c.args.texts.roster.now c.args.texts.lists.now in
       told-change since reading c.args.journal.now c.args.lines.now c.as_slice.result.now
-      (g.W.Write.contents (device_of c.args.out.now)) (g.W.Write.contents (device_of c.change_from-written.new.out))
+      (g.W.Write.contents (device_of c.args.out.now)) (g.W.Write.contents (device_of c.change_from.new.out))
       first (subst (ArePlacesAfter reading c.args.lines.now) (sym c.as_slice.ensures.value) c.in-Ok.ensures.places)
-      (Ok c.in-Ok-written.tail) c.in-Ok-written.ensures.bytes;
+      (Ok c.in-Ok-change_from.tail) c.in-Ok-change_from.ensures.bytes;
   failed = search rules;
 }
 
-pub returns-in-Err-written : goal.returns-in-Err-written
-returns-in-Err-written g c = record {
+pub returns : goal.returns
+returns g c = record {
   bytes = λ since first.
       let reading = papers_in c.args.seed.now c.args.texts.schools.now c.args.texts.roster.now c.args.texts.lists.now in
       told-change since reading c.args.journal.now c.args.lines.now c.as_slice.result.now
-      (g.W.Write.contents (device_of c.args.out.now)) (g.W.Write.contents (device_of c.change_from-written.new.out))
+      (g.W.Write.contents (device_of c.args.out.now)) (g.W.Write.contents (device_of c.change_from.new.out))
       first (subst (ArePlacesAfter reading c.args.lines.now) (sym c.as_slice.ensures.value) c.in-Ok.ensures.places)
-      (Err c.in-Err-written.fault) c.in-Err-written.ensures.bytes;
+      (Err c.in-Err-change_from.fault) c.in-Err-change_from.ensures.bytes;
   failed = search rules;
 }

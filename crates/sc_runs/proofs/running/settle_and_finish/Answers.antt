@@ -13,9 +13,9 @@ returns-in-Ok g c =
     let standing = c.in-Ok.clearing.standing in record {
       bytes = subst (λ m. WritesLastReport m
           (record { journal = g.J.Recorder.contents c.args.journal.now; output = g.W.Write.contents (device_of c.args.out.now) })
-          (record { journal = g.J.Recorder.contents c.finish-written.new.journal; output = g.W.Write.contents (device_of c.finish-written.new.out) }) c.finish-written.result)
+          (record { journal = g.J.Recorder.contents c.finish.new.journal; output = g.W.Write.contents (device_of c.finish.new.out) }) c.finish.result)
           (ap (λ p. p.papers) c.in-Ok.ensures.papers)
-          (report_text standing.papers (matching_of standing), (matching_of standing, c.in-Ok.ensures.certified.optimal, refl), c.finish-written.ensures.bytes);
+          (report_text standing.papers (matching_of standing), (matching_of standing, c.in-Ok.ensures.certified.optimal, refl), c.finish.ensures.bytes);
       failed = search rules;
       journal_failed = search rules;
     }
