@@ -15,9 +15,9 @@ use Rattle.sc_papers.specs.declared.key.Key.{Key}
 use Rattle.sc_papers.proofs.Choices.{contains-at}
 use Rattle.sc_papers.proofs.Hands.{school-has_position}
 use Rattle.sc_papers.proofs.Positions.{among-school, position-among}
-use Rattle.sc_report.specs.Rising.{rising}
+use Rattle.sc_reasons.specs.Rising.{rising}
 use Rattle.sc_report.proofs.LineLemmas.{lines-more}
-use Rattle.sc_report.proofs.RisingLemmas.{rising-by, rising-permutes}
+use Rattle.sc_reasons.proofs.RisingLemmas.{rising-by, rising-permutes}
 use Rattle.sc_seats.specs.Roll.{in_order}
 use Rattle.sc_notices.specs.Admissions.{class_list, keys_passing, waiting_list, waits}
 use Rattle.sc_notices.specs.AdmissionsText.{admission_lines, admissions_of, admissions_text, list_lines, place_line, school_lists}

@@ -9,8 +9,8 @@ use Rattle.sc_papers.specs.Market.{Market, is_student, students_of}
 use Rattle.sc_papers.specs.Matching.{Matching}
 use Rattle.sc_papers.proofs.Counting.{contains-cons, contains-head, contains-tail}
 use Rattle.sc_papers.proofs.Positions.{student-among}
-use Rattle.sc_report.specs.Rising.{rising}
-use Rattle.sc_report.proofs.RisingLemmas.{rising-permutes}
+use Rattle.sc_reasons.specs.Rising.{rising}
+use Rattle.sc_reasons.proofs.RisingLemmas.{rising-permutes}
 use Rattle.sc_notices.specs.Changes.{changed, differ, place_in, students_of_either}
 use Rattle.sc_notices.specs.ChangesText.{change_line, changes_text}
 

@@ -13,10 +13,10 @@ use Rattle.std.proofs.lemmas.List.Sorted.{Contains-permutation, IsPermutation-ap
 use Rattle.sc_papers.specs.Market.{Market, is_student, students_of}
 use Rattle.sc_papers.specs.Matching.{Matching}
 use Rattle.sc_papers.proofs.Positions.{among-student, student-among}
-use Rattle.sc_report.specs.Entrants.{numbers_of, AreRising, Holds}
-use Rattle.sc_report.specs.Rising.{rising}
-use Rattle.sc_report.specs.declared.entrants.Entrant.{Entrant}
-use Rattle.sc_report.proofs.RisingLemmas.{rising-orders, rising-permutes, rising-same}
+use Rattle.sc_reasons.specs.Entrants.{numbers_of, AreRising, Holds}
+use Rattle.sc_reasons.specs.Rising.{rising}
+use Rattle.sc_reasons.specs.declared.entrants.Entrant.{Entrant}
+use Rattle.sc_reasons.proofs.RisingLemmas.{rising-orders, rising-permutes, rising-same}
 use Rattle.sc_tallies.proofs.Tallying.{take-one}
 use Rattle.sc_notices.specs.Changes.{changed, differ, place_in, students_of_either}
 use Rattle.sc_notices.specs.ChangesText.{change_line, changes_text}

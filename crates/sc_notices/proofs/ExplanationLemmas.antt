@@ -7,13 +7,13 @@ use Rattle.std.proofs.lemmas.List.FromFn.{get_or-enumerate_from, length-enumerat
 use Rattle.std.proofs.lemmas.List.Folds.{list_any-append}
 use Rattle.std.proofs.lemmas.Option.{get_or_from_slice_get, slice_get_within}
 use Rattle.sc_papers.specs.Market.{Market, choices_of, students_of}
-use Rattle.sc_report.specs.Rising.{rising}
+use Rattle.sc_reasons.specs.Rising.{rising}
 use Rattle.sc_papers.specs.Matching.{Matching, has}
 use Rattle.sc_papers.specs.declared.key.Key.{Key}
 use Rattle.sc_papers.specs.Key.{key_of}
-use Rattle.sc_report.specs.Cutoff.{cutoff}
-use Rattle.sc_report.specs.Reason.{reason_by}
-use Rattle.sc_report.specs.declared.cutoff.Cutoff.{Cutoff}
+use Rattle.sc_reasons.specs.Cutoff.{cutoff}
+use Rattle.sc_reasons.specs.Reason.{reason_by}
+use Rattle.sc_reasons.specs.declared.cutoff.Cutoff.{Cutoff}
 use Rattle.sc_report.proofs.LineLemmas.{lines-more}
 use Rattle.sc_notices.specs.Explanation.{has_before, outcome, outcome_by}
 use Rattle.sc_notices.specs.Lottery.{cutoff_rank, lottery_rank}

@@ -24,11 +24,11 @@ use Rattle.sc_seats.proofs.Order.{ascending-places}
 use Rattle.sc_seats.proofs.Ordering.{Differ, Differ-cons, ascending-in_order, in_order-permutes}
 use Rattle.sc_tallies.specs.LastKey.{keys_among, last_key}
 use Rattle.sc_tallies.proofs.LastKeys.{keyed, last-contained}
-use Rattle.sc_report.specs.Cutoff.{cutoff, cutoff_by, cutoff_row, rows_in_order}
-use Rattle.sc_report.specs.declared.cutoff.Cutoff.{Cutoff}
-use Rattle.sc_report.specs.declared.cutoff.Cutoff.TheVariants.{Closed, Free, Full}
-use Rattle.sc_report.specs.declared.cutoff.CutoffRow.{CutoffRow}
-use Rattle.sc_report.proofs.CutoffLemmas.{cutoff-read}
+use Rattle.sc_reasons.specs.Cutoff.{cutoff, cutoff_by, cutoff_row, rows_in_order}
+use Rattle.sc_reasons.specs.declared.cutoff.Cutoff.{Cutoff}
+use Rattle.sc_reasons.specs.declared.cutoff.Cutoff.TheVariants.{Closed, Free, Full}
+use Rattle.sc_reasons.specs.declared.cutoff.CutoffRow.{CutoffRow}
+use Rattle.sc_reasons.proofs.CutoffLemmas.{cutoff-read}
 use Rattle.sc_notices.specs.Lottery.{cutoff_rank, lottery_rank, ticket_of}
 use Rattle.sc_notices.specs.Tickets.{IsLotteryOf}
 use Rattle.sc_notices.specs.declared.lottery.Lottery.{Lottery}

@@ -11,8 +11,8 @@ use Rattle.sc_papers.specs.WellFormed.{WellFormed}
 use Rattle.sc_papers.proofs.Choices.{one-place}
 use Rattle.sc_papers.proofs.Rejections.{has-some, has-true}
 use Rattle.sc_papers.proofs.Students.{choices-differ}
-use Rattle.sc_report.specs.Reason.{reason}
-use Rattle.sc_report.specs.declared.reason.Reason.{Reason}
+use Rattle.sc_reasons.specs.Reason.{reason}
+use Rattle.sc_reasons.specs.declared.reason.Reason.{Reason}
 use Rattle.sc_notices.specs.Explanation.{has_before, outcome, outcome_by}
 use Rattle.sc_notices.specs.declared.outcome.Outcome.TheVariants.{Given, Later, Refused}
 

@@ -5,7 +5,7 @@ use Rattle.sc_papers.specs.Key.{key_of}
 use Rattle.sc_papers.specs.Market.{Market, students_of}
 use Rattle.sc_papers.specs.Matching.{Matching, has}
 use Rattle.sc_papers.specs.declared.key.Key.{Key}
-use Rattle.sc_report.specs.Reason.{preferred}
+use Rattle.sc_reasons.specs.Reason.{preferred}
 use Rattle.sc_seats.specs.Roll.{in_order}
 
 -- whether i waits for s: whether i prefers s to what i has

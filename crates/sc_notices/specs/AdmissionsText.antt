@@ -6,7 +6,7 @@ use Rattle.sc_papers.specs.Market.{Market, schools_of}
 use Rattle.sc_papers.specs.Matching.{Matching}
 use Rattle.sc_papers.specs.declared.key.Key.{Key}
 use Rattle.sc_report.specs.CutoffText.{draw_text}
-use Rattle.sc_report.specs.Rising.{rising}
+use Rattle.sc_reasons.specs.Rising.{rising}
 use Rattle.sc_notices.specs.Admissions.{class_list, waiting_list}
 use Rattle.sc_notices.specs.declared.status.Status.{Status}
 use Rattle.sc_notices.specs.declared.status.Status.TheVariants.{Admitted, Waiting}

@@ -3,7 +3,7 @@ use Rattle.std.specs.Prelude.{ℕ, Bool, nat_eq, not, List, ◌++◌, Option, No
 use Rattle.std.specs.Option.{option_eq}
 use Rattle.sc_papers.specs.Market.{Market, is_student, students_of}
 use Rattle.sc_papers.specs.Matching.{Matching}
-use Rattle.sc_report.specs.Rising.{rising}
+use Rattle.sc_reasons.specs.Rising.{rising}
 
 -- i's place: the school that i has, or none; and no place at all for one who is not in the papers
 abbrev pub place_in : Market → Matching → ℕ → Option (Option ℕ)

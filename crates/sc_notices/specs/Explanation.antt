@@ -4,8 +4,8 @@ use Rattle.std.specs.Option.{option_map_or}
 use Rattle.std.specs.List.{list_any}
 use Rattle.sc_papers.specs.Market.{Market, choices_of}
 use Rattle.sc_papers.specs.Matching.{Matching, has}
-use Rattle.sc_report.specs.Reason.{reason}
-use Rattle.sc_report.specs.declared.reason.Reason.{Reason}
+use Rattle.sc_reasons.specs.Reason.{reason}
+use Rattle.sc_reasons.specs.declared.reason.Reason.{Reason}
 use Rattle.sc_notices.specs.declared.outcome.Outcome.{Outcome}
 use Rattle.sc_notices.specs.declared.outcome.Outcome.TheVariants.{Given, Refused, Later}
 

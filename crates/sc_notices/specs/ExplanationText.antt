@@ -6,11 +6,11 @@ use Rattle.sc_papers.specs.Key.{key_of}
 use Rattle.sc_papers.specs.Market.{Market, choices_of, students_of}
 use Rattle.sc_papers.specs.Matching.{Matching}
 use Rattle.sc_papers.specs.declared.key.Key.{Key}
-use Rattle.sc_report.specs.Cutoff.{cutoff}
+use Rattle.sc_reasons.specs.Cutoff.{cutoff}
 use Rattle.sc_report.specs.CutoffText.{cutoff_field, draw_text}
 use Rattle.sc_report.specs.ReasonText.{reason_word}
-use Rattle.sc_report.specs.Rising.{rising}
-use Rattle.sc_report.specs.declared.cutoff.Cutoff.{Cutoff}
+use Rattle.sc_reasons.specs.Rising.{rising}
+use Rattle.sc_reasons.specs.declared.cutoff.Cutoff.{Cutoff}
 use Rattle.sc_notices.specs.Explanation.{outcome}
 use Rattle.sc_notices.specs.Lottery.{cutoff_rank, lottery_rank}
 use Rattle.sc_notices.specs.declared.outcome.Outcome.{Outcome}

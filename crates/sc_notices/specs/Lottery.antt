@@ -5,8 +5,8 @@ use Rattle.sc_papers.specs.Key.{is_before}
 use Rattle.sc_papers.specs.Market.{Market}
 use Rattle.sc_papers.specs.Matching.{how_many}
 use Rattle.sc_papers.specs.declared.key.Key.{Key}
-use Rattle.sc_report.specs.declared.cutoff.Cutoff.{Cutoff}
-use Rattle.sc_report.specs.declared.cutoff.Cutoff.TheVariants.{Closed, Free, Full}
+use Rattle.sc_reasons.specs.declared.cutoff.Cutoff.{Cutoff}
+use Rattle.sc_reasons.specs.declared.cutoff.Cutoff.TheVariants.{Closed, Free, Full}
 
 -- i's ticket in the lottery: their key where all are of one class
 abbrev pub ticket_of : Market → ℕ → Key

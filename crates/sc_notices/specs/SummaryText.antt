@@ -5,7 +5,7 @@ use Rattle.std.specs.List.{range_with_len}
 use Rattle.sc_papers.specs.Market.{Market, schools_of, seats_of}
 use Rattle.sc_papers.specs.Matching.{Matching, held}
 use Rattle.sc_papers.specs.declared.limits.TheConstants.{LONGEST_LIST}
-use Rattle.sc_report.specs.Rising.{rising}
+use Rattle.sc_reasons.specs.Rising.{rising}
 use Rattle.sc_notices.specs.Summary.{listed, unplaced, with_rank}
 
 -- the ranks that a choice may have, from 0

@@ -3,8 +3,8 @@ use Rattle.std.specs.Prelude.{◌≡◌, List, length, map}
 use Rattle.sc_papers.specs.Market.{Market, students_of}
 use Rattle.sc_papers.specs.Matching.{Matching}
 use Rattle.sc_seats.specs.Roll.{in_order}
-use Rattle.sc_report.specs.Cutoff.{rows_in_order}
-use Rattle.sc_report.specs.declared.cutoff.CutoffRow.{CutoffRow}
+use Rattle.sc_reasons.specs.Cutoff.{rows_in_order}
+use Rattle.sc_reasons.specs.declared.cutoff.CutoffRow.{CutoffRow}
 use Rattle.sc_notices.specs.Lottery.{cutoff_rank, ticket_of}
 use Rattle.sc_notices.specs.declared.lottery.Lottery.{Lottery}
 

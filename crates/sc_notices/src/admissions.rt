@@ -3,7 +3,7 @@ ghost use Rattle.std.specs.Prelude.{◌≡◌, ◌+◌, ◌^◌, ◌<◌, ◌++�
 ghost use Rattle.sc_papers.specs.Market.{is_school, schools_of, students_of};
 ghost use Rattle.sc_papers.specs.Matching.{Matching};
 ghost use Rattle.sc_repair.specs.Standing.{matching_of};
-ghost use Rattle.sc_report.specs.Rising.{rising};
+ghost use Rattle.sc_reasons.specs.Rising.{rising};
 ghost use Rattle.sc_notices.specs.AdmissionsText.{admission_lines, admissions_of, admissions_text, list_lines, place_line, school_lists};
 ghost use Rattle.sc_notices.specs.KeyLists.{AreCandidates};
 

@@ -3,8 +3,8 @@ ghost use Rattle.std.specs.Prelude.{◌≡◌, ◌++◌, ◌∷◌, [], not, fil
 ghost use Rattle.sc_papers.specs.Market.{Market, is_student, students_of};
 ghost use Rattle.sc_papers.specs.Matching.{Matching};
 ghost use Rattle.sc_repair.specs.Standing.{matching_of};
-ghost use Rattle.sc_report.specs.Entrants.{numbers_of, AreRising, Holds};
-ghost use Rattle.sc_report.specs.Rising.{rising};
+ghost use Rattle.sc_reasons.specs.Entrants.{numbers_of, AreRising, Holds};
+ghost use Rattle.sc_reasons.specs.Rising.{rising};
 ghost use Rattle.sc_notices.specs.Changes.{differ, place_in, students_of_either};
 ghost use Rattle.sc_notices.specs.ChangesText.{change_line, changes_text, place_word};
 

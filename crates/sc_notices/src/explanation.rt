@@ -3,9 +3,9 @@ ghost use Rattle.std.specs.Prelude.{◌≡◌, ◌<◌, ◌++◌, ◌||◌, code
 ghost use Rattle.sc_papers.specs.Market.{Market, is_student, schools_of};
 ghost use Rattle.sc_papers.specs.Matching.{Matching};
 ghost use Rattle.sc_repair.specs.Standing.{matching_of};
-ghost use Rattle.sc_report.specs.Cutoff.{cutoff, rows_in_order};
-ghost use Rattle.sc_report.specs.Entrants.{numbers_of, Holds, StandsAt};
-ghost use Rattle.sc_report.specs.Reason.{reason_by};
+ghost use Rattle.sc_reasons.specs.Cutoff.{cutoff, rows_in_order};
+ghost use Rattle.sc_reasons.specs.Entrants.{numbers_of, Holds, StandsAt};
+ghost use Rattle.sc_reasons.specs.Reason.{reason_by};
 ghost use Rattle.sc_notices.specs.Explanation.{is_given, outcome_by};
 ghost use Rattle.sc_notices.specs.ExplanationText.{choice_fields, explanation_lines, explanation_of, explanation_text, cutoff_part, own_fields, own_part, student_lines};
 ghost use Rattle.sc_notices.specs.Lottery.{lottery_rank};

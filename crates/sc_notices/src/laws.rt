@@ -5,7 +5,7 @@ ghost use Rattle.sc_papers.specs.Market.{Market, choices_of};
 ghost use Rattle.sc_papers.specs.Matching.{IsMatching, Matching, Prefers, StandsBefore};
 ghost use Rattle.sc_papers.specs.WellFormed.{WellFormed};
 ghost use Rattle.sc_papers.specs.declared.key.Key.{Key};
-ghost use Rattle.sc_report.specs.Reason.{reason};
+ghost use Rattle.sc_reasons.specs.Reason.{reason};
 ghost use Rattle.sc_seats.specs.Roll.{IsAscending};
 ghost use Rattle.sc_notices.specs.Admissions.{class_list, waiting_list};
 ghost use Rattle.sc_notices.specs.Changes.{changed, place_in};

@@ -3,7 +3,7 @@ ghost use Rattle.std.specs.Prelude.{◌≡◌, ℕ, ◌+◌, ◌<◌, ◌≤◌,
 ghost use Rattle.sc_papers.specs.Market.{Market, student_at, students_of};
 ghost use Rattle.sc_papers.specs.Matching.{Matching};
 ghost use Rattle.sc_papers.specs.WellFormed.{WellFormed};
-ghost use Rattle.sc_report.specs.Cutoff.{cutoff as cutoff_of, rows_in_order};
+ghost use Rattle.sc_reasons.specs.Cutoff.{cutoff as cutoff_of, rows_in_order};
 ghost use Rattle.sc_seats.specs.Roll.{in_order};
 ghost use Rattle.sc_notices.specs.Lottery.{cutoff_rank, lottery_rank, ticket_of};
 

@@ -1,6 +1,6 @@
 //! What came of a choice.
 ghost use Rattle.std.specs.Prelude.{◌≡◌, ◌++◌, codes, OnOk};
-ghost use Rattle.sc_report.specs.Reason.{reason_by};
+ghost use Rattle.sc_reasons.specs.Reason.{reason_by};
 ghost use Rattle.sc_notices.specs.Explanation.{outcome_by};
 ghost use Rattle.sc_notices.specs.ExplanationText.{outcome_word};
 

@@ -14,13 +14,13 @@ use Rattle.sc_papers.proofs.Priority.{before-trans}
 use Rattle.sc_papers.proofs.Rejections.{has-some}
 use Rattle.sc_papers.proofs.Students.{choices-differ, lister-among}
 use Rattle.sc_report.specs.Admission.{admits, first_admitting, is_admitted}
-use Rattle.sc_report.specs.Cutoff.{cutoff, cutoff_by}
+use Rattle.sc_reasons.specs.Cutoff.{cutoff, cutoff_by}
 use Rattle.sc_tallies.specs.LastKey.{keys_among, last_key}
-use Rattle.sc_report.specs.Reason.{reason, reason_by, Applies}
-use Rattle.sc_report.specs.declared.cutoff.Cutoff.{Cutoff}
-use Rattle.sc_report.specs.declared.cutoff.Cutoff.TheVariants.{Closed, Free, Full}
-use Rattle.sc_report.specs.declared.reason.Reason.{Reason}
-use Rattle.sc_report.specs.declared.reason.Reason.TheVariants.{Seats, Class, Lottery}
+use Rattle.sc_reasons.specs.Reason.{reason, reason_by, Applies}
+use Rattle.sc_reasons.specs.declared.cutoff.Cutoff.{Cutoff}
+use Rattle.sc_reasons.specs.declared.cutoff.Cutoff.TheVariants.{Closed, Free, Full}
+use Rattle.sc_reasons.specs.declared.reason.Reason.{Reason}
+use Rattle.sc_reasons.specs.declared.reason.Reason.TheVariants.{Seats, Class, Lottery}
 use Rattle.sc_tallies.proofs.LastKeys.{key-among, last-after, last-among}
 use Rattle.sc_report.proofs.ReasonLaws.{keys-count, reason-applies}
 

@@ -16,18 +16,18 @@ use Rattle.sc_papers.specs.Matching.{Matching}
 use Rattle.sc_papers.specs.declared.key.Key.{Key}
 use borrow.Rule.Slice.PartMut.{put_mid, post_of}
 use Rattle.sc_report.specs.Endings.{line_ending, piece_text, place_ending, EndsAt, HasEndings, HaveEndings}
-use Rattle.sc_report.specs.Entrants.{Holds}
-use Rattle.sc_report.specs.Reason.{reason_by}
+use Rattle.sc_reasons.specs.Entrants.{Holds}
+use Rattle.sc_reasons.specs.Reason.{reason_by}
 use Rattle.sc_report.specs.ReasonText.{reason_line, reason_word}
 use Rattle.sc_report.specs.Text.{assignment_line, place_text}
-use Rattle.sc_report.specs.declared.cutoff.CutoffRow.{CutoffRow}
+use Rattle.sc_reasons.specs.declared.cutoff.CutoffRow.{CutoffRow}
 use Rattle.sc_report.specs.declared.endings.Endings.{Endings}
 use Rattle.sc_report.specs.declared.endings.SchoolEndings.{SchoolEndings}
-use Rattle.sc_report.specs.declared.entrants.Entrant.{Entrant}
+use Rattle.sc_reasons.specs.declared.entrants.Entrant.{Entrant}
 use Rattle.sc_report.specs.declared.piece.Piece.{Piece}
-use Rattle.sc_report.specs.declared.reason.Reason.{Reason}
-use Rattle.sc_report.specs.declared.reason.Reason.TheVariants.{Seats, Class, Lottery}
-use Rattle.sc_report.specs.declared.reason.ReasonRow.{ReasonRow}
+use Rattle.sc_reasons.specs.declared.reason.Reason.{Reason}
+use Rattle.sc_reasons.specs.declared.reason.Reason.TheVariants.{Seats, Class, Lottery}
+use Rattle.sc_reasons.specs.declared.reason.ReasonRow.{ReasonRow}
 
 -- a short text stands in what it begins
 pub piece-made : (text more : List ℕ) (n : ℕ) → length text < 16 → n ≡ length text → take (n % 16) (text ++ more) ≡ text

@@ -1,10 +1,6 @@
 pub mod KnownLemmas
 pub mod Differences
-pub mod RisingLemmas
-pub mod EntrantLemmas
 pub mod Orders
-pub mod CutoffLemmas
-pub mod ReasonLemmas
 pub mod ReasonCounts
 pub mod LineLemmas
 pub mod PageLemmas

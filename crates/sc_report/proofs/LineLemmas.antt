@@ -6,14 +6,14 @@ use Rattle.std.proofs.lemmas.List.{take_all}
 use Rattle.std.proofs.Math.Seq.{take-suc}
 use Rattle.sc_papers.specs.Market.{Market, students_of}
 use Rattle.sc_papers.specs.Matching.{Matching}
-use Rattle.sc_report.specs.Cutoff.{cutoff_rows}
+use Rattle.sc_reasons.specs.Cutoff.{cutoff_rows}
+use Rattle.sc_reasons.specs.Reason.{reason_rows}
+use Rattle.sc_reasons.specs.Rising.{rising}
+use Rattle.sc_reasons.specs.declared.cutoff.CutoffRow.{CutoffRow}
+use Rattle.sc_reasons.specs.declared.reason.ReasonRow.{ReasonRow}
 use Rattle.sc_report.specs.CutoffText.{cutoff_lines, cutoff_text}
-use Rattle.sc_report.specs.Reason.{reason_rows}
 use Rattle.sc_report.specs.ReasonText.{reason_lines, reason_text}
-use Rattle.sc_report.specs.Rising.{rising}
 use Rattle.sc_report.specs.Text.{assignment_lines, assignment_text, report_text}
-use Rattle.sc_report.specs.declared.cutoff.CutoffRow.{CutoffRow}
-use Rattle.sc_report.specs.declared.reason.ReasonRow.{ReasonRow}
 
 pub flat_map-one_more : {X : Type 0} (f : X → List ℕ) (xs : List X) (x : X) → flat_map f (xs ++ x ∷ []) ≡ flat_map f xs ++ f x
 flat_map-one_more f [] x = append-nil (f x)

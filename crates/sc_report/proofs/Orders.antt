@@ -11,15 +11,15 @@ use Rattle.sc_papers.specs.WellFormed.{WellFormed}
 use Rattle.sc_papers.specs.declared.key.Key.{Key}
 use Rattle.sc_papers.proofs.Reordering.{optimal-reordered, key-moved, choices-moved, seats-moved, counts-moved}
 use Rattle.sc_papers.proofs.Uniqueness.{optimal-unique}
-use Rattle.sc_report.specs.Cutoff.{cutoff, cutoff_by, cutoff_row}
+use Rattle.sc_reasons.specs.Cutoff.{cutoff, cutoff_by, cutoff_row}
 use Rattle.sc_tallies.specs.LastKey.{keys_among, last_key}
 use Rattle.sc_report.specs.CutoffText.{cutoff_lines, cutoff_text}
-use Rattle.sc_report.specs.Reason.{reason, reason_by, reasons_of}
+use Rattle.sc_reasons.specs.Reason.{reason, reason_by, reasons_of}
 use Rattle.sc_report.specs.ReasonText.{reason_lines, reason_text}
-use Rattle.sc_report.specs.Rising.{rising}
+use Rattle.sc_reasons.specs.Rising.{rising}
 use Rattle.sc_report.specs.Text.{assignment_lines, assignment_text, report_text}
 use Rattle.sc_tallies.proofs.LastKeys.{key-among, keyed, last-same}
-use Rattle.sc_report.proofs.RisingLemmas.{rising-same}
+use Rattle.sc_reasons.proofs.RisingLemmas.{rising-same}
 
 -- the numbers that pass have the same keys, whatever order the numbers come in
 keys-moved : (p : ℕ → Bool) (f : ℕ → Key) (xs ys : List ℕ) → IsPermutation xs ys → (key : Key) → Contains (map f (filter p xs)) key → Contains (map f (filter p ys)) key

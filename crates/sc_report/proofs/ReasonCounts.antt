@@ -17,11 +17,11 @@ use Rattle.sc_papers.proofs.Counting.{count-cons_fails, count-cons_passes, count
 use Rattle.sc_papers.proofs.Rejections.{has-some, has-true}
 use Rattle.sc_papers.proofs.Students.{choices-differ, lister-among}
 use Rattle.sc_papers.proofs.Sums.{sum-bump, sum-zero}
-use Rattle.sc_report.specs.Reason.{preferred, reason_row, reasons_of, rows_for}
-use Rattle.sc_report.specs.Rising.{rising}
-use Rattle.sc_report.specs.declared.reason.ReasonRow.{ReasonRow}
-use Rattle.sc_report.proofs.ReasonLemmas.{before-fails}
-use Rattle.sc_report.proofs.RisingLemmas.{rising-permutes}
+use Rattle.sc_reasons.specs.Reason.{preferred, reason_row, reasons_of, rows_for}
+use Rattle.sc_reasons.specs.Rising.{rising}
+use Rattle.sc_reasons.specs.declared.reason.ReasonRow.{ReasonRow}
+use Rattle.sc_reasons.proofs.ReasonLemmas.{before-fails}
+use Rattle.sc_reasons.proofs.RisingLemmas.{rising-permutes}
 
 -- s stands in the list, and up to it none passes
 record IsReached (p : ℕ → Bool) (xs : List ℕ) (s : ℕ) : Type 0 where

@@ -14,12 +14,12 @@ use Rattle.sc_papers.specs.declared.key.Key.{Key}
 use Rattle.sc_papers.proofs.Choices.{one-place}
 use Rattle.sc_papers.proofs.Rejections.{has-true}
 use Rattle.sc_papers.proofs.Students.{choices-differ}
-use Rattle.sc_report.specs.Cutoff.{cutoff, cutoff_by}
+use Rattle.sc_reasons.specs.Cutoff.{cutoff, cutoff_by}
 use Rattle.sc_tallies.specs.LastKey.{keys_among, last_key}
-use Rattle.sc_report.specs.Reason.{reason, reason_by, Applies}
-use Rattle.sc_report.specs.declared.cutoff.Cutoff.{Cutoff}
-use Rattle.sc_report.specs.declared.cutoff.Cutoff.TheVariants.{Closed, Free, Full}
-use Rattle.sc_report.specs.declared.reason.Reason.TheVariants.{Class, Lottery}
+use Rattle.sc_reasons.specs.Reason.{reason, reason_by, Applies}
+use Rattle.sc_reasons.specs.declared.cutoff.Cutoff.{Cutoff}
+use Rattle.sc_reasons.specs.declared.cutoff.Cutoff.TheVariants.{Closed, Free, Full}
+use Rattle.sc_reasons.specs.declared.reason.Reason.TheVariants.{Class, Lottery}
 use Rattle.sc_tallies.proofs.LastKeys.{keyed, last-contained, last-found}
 
 abbrev is_free : Cutoff → Bool

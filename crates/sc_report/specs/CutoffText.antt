@@ -6,10 +6,10 @@ use Rattle.hex.specs.Hex.{encode_lower}
 use Rattle.sc_papers.specs.Market.{Market}
 use Rattle.sc_papers.specs.Matching.{Matching}
 use Rattle.sc_papers.specs.declared.key.Key.{Key}
-use Rattle.sc_report.specs.Cutoff.{cutoff_rows}
-use Rattle.sc_report.specs.declared.cutoff.Cutoff.{Cutoff}
-use Rattle.sc_report.specs.declared.cutoff.Cutoff.TheVariants.{Closed, Free, Full}
-use Rattle.sc_report.specs.declared.cutoff.CutoffRow.{CutoffRow}
+use Rattle.sc_reasons.specs.Cutoff.{cutoff_rows}
+use Rattle.sc_reasons.specs.declared.cutoff.Cutoff.{Cutoff}
+use Rattle.sc_reasons.specs.declared.cutoff.Cutoff.TheVariants.{Closed, Free, Full}
+use Rattle.sc_reasons.specs.declared.cutoff.CutoffRow.{CutoffRow}
 
 -- a draw: its eight bytes, the greatest first, in two lower-case hexadecimal digits each
 unfoldable pub draw_text : ℕ → List ℕ

@@ -4,13 +4,13 @@ use Rattle.std.specs.Option.{IsSomeAnd}
 use Rattle.std.specs.Fmt.{decimal}
 use Rattle.std.specs.List.{AllZip}
 use Rattle.sc_papers.specs.declared.key.Key.{Key}
-use Rattle.sc_report.specs.Reason.{reason_by}
+use Rattle.sc_reasons.specs.Reason.{reason_by}
+use Rattle.sc_reasons.specs.declared.cutoff.CutoffRow.{CutoffRow}
+use Rattle.sc_reasons.specs.declared.reason.Reason.{Reason}
 use Rattle.sc_report.specs.ReasonText.{reason_word}
-use Rattle.sc_report.specs.declared.cutoff.CutoffRow.{CutoffRow}
 use Rattle.sc_report.specs.declared.endings.Endings.{Endings}
 use Rattle.sc_report.specs.declared.endings.SchoolEndings.{SchoolEndings}
 use Rattle.sc_report.specs.declared.piece.Piece.{Piece}
-use Rattle.sc_report.specs.declared.reason.Reason.{Reason}
 
 -- the text of a piece
 abbrev pub piece_text : Piece → List ℕ

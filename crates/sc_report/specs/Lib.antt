@@ -3,10 +3,6 @@ pub mod Whole
 pub mod Pages
 pub mod Comparing
 pub mod Devices
-pub mod Rising
-pub mod Entrants
-pub mod Cutoff
-pub mod Reason
 pub mod Admission
 pub mod CutoffText
 pub mod ReasonText

@@ -3,10 +3,10 @@ use Rattle.std.specs.Prelude.{ℕ, List, ◌++◌, codes, flat_map}
 use Rattle.std.specs.Fmt.{decimal}
 use Rattle.sc_papers.specs.Market.{Market}
 use Rattle.sc_papers.specs.Matching.{Matching}
-use Rattle.sc_report.specs.Reason.{reason_rows}
-use Rattle.sc_report.specs.declared.reason.Reason.{Reason}
-use Rattle.sc_report.specs.declared.reason.Reason.TheVariants.{Seats, Class, Lottery}
-use Rattle.sc_report.specs.declared.reason.ReasonRow.{ReasonRow}
+use Rattle.sc_reasons.specs.Reason.{reason_rows}
+use Rattle.sc_reasons.specs.declared.reason.Reason.{Reason}
+use Rattle.sc_reasons.specs.declared.reason.Reason.TheVariants.{Seats, Class, Lottery}
+use Rattle.sc_reasons.specs.declared.reason.ReasonRow.{ReasonRow}
 
 -- a reason's word
 abbrev pub reason_word : Reason → List ℕ

@@ -3,9 +3,9 @@ use Rattle.std.specs.Prelude.{◌≡◌, ℕ, List, ◌++◌, codes, flat_map, O
 use Rattle.std.specs.Fmt.{decimal}
 use Rattle.sc_papers.specs.Market.{Market, students_of}
 use Rattle.sc_papers.specs.Matching.{Matching}
+use Rattle.sc_reasons.specs.Rising.{rising}
 use Rattle.sc_report.specs.CutoffText.{cutoff_text}
 use Rattle.sc_report.specs.ReasonText.{reason_text}
-use Rattle.sc_report.specs.Rising.{rising}
 
 -- a school's number, or a dash for none
 abbrev pub place_text : Option ℕ → List ℕ

@@ -3,10 +3,11 @@ ghost use Rattle.std.specs.Prelude.{◌≡◌, ◌++◌, IfOk, OnOk};
 ghost use Rattle.sc_repair.specs.Standing.{matching_of};
 ghost use Rattle.sc_report.specs.CutoffText.{cutoff_field, cutoff_line, cutoff_lines, cutoff_text, key_text};
 
-use crate::cutoff::{Cutoff, CutoffRow, cutoffs};
 use crate::lines::push_draw;
+use crate::standing_rows::cutoffs;
 use sc_decimal::push_number;
 use sc_papers::Key;
+use sc_reasons::{Cutoff, CutoffRow};
 use sc_repair::Clearing;
 use std::alloc::{AllocError, Global};
 

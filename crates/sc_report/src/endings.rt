@@ -1,16 +1,15 @@
 //! How the lines about a school end: each ending is written once, however many lines have it.
 ghost use Rattle.std.specs.Prelude.{◌≡◌, ◌<◌, nat_lt, length, slice_get, if◌then◌else◌, List, Some, IfOk};
 ghost use Rattle.sc_papers.specs.declared.key.Key.{Key};
+ghost use Rattle.sc_reasons.specs.Reason.{reason_by};
+ghost use Rattle.sc_reasons.specs.declared.cutoff.CutoffRow.{CutoffRow};
 ghost use Rattle.sc_report.specs.Endings.{line_ending, piece_text, place_ending, HasEndings, HaveEndings};
-ghost use Rattle.sc_report.specs.Reason.{reason_by};
-ghost use Rattle.sc_report.specs.declared.cutoff.CutoffRow.{CutoffRow};
 
-use crate::cutoff::{Cutoff, CutoffRow};
 use crate::piece::Piece;
-use crate::reason::Reason;
 use crate::reason_lines::push_reason;
 use sc_decimal::push_number;
 use sc_papers::SchoolNo;
+use sc_reasons::{Cutoff, CutoffRow, Reason};
 use std::alloc::{AllocError, Global};
 
 /// How the lines about a school end, after the student's number and the comma.

@@ -6,13 +6,13 @@ ghost use Rattle.sc_papers.specs.Market.{Market};
 ghost use Rattle.sc_papers.specs.Matching.{IsMatching, Matching, IsStable, IsStudentOptimal, Prefers, WithinSeats};
 ghost use Rattle.sc_papers.specs.Reordering.{IsReordering};
 ghost use Rattle.sc_papers.specs.WellFormed.{WellFormed};
+ghost use Rattle.sc_reasons.specs.Cutoff.{cutoff};
+ghost use Rattle.sc_reasons.specs.Reason.{reason, rows_for, Applies};
+ghost use Rattle.sc_reasons.specs.declared.reason.Reason.{Reason};
 ghost use Rattle.sc_report.specs.Admission.{first_admitting, is_admitted};
-ghost use Rattle.sc_report.specs.Cutoff.{cutoff};
 ghost use Rattle.sc_report.specs.CutoffText.{cutoff_text};
-ghost use Rattle.sc_report.specs.Reason.{reason, rows_for, Applies};
 ghost use Rattle.sc_report.specs.ReasonText.{reason_text};
 ghost use Rattle.sc_report.specs.Text.{assignment_text, report_text};
-ghost use Rattle.sc_report.specs.declared.reason.Reason.{Reason};
 
 /// The order of entry decides nothing about what people read: papers with the same schools and
 /// students, up to their order, have the same texts, part by part and whole, for matchings that give

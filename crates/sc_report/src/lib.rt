@@ -3,21 +3,19 @@
 #![tactic(auto)]
 
 mod comparing;
-mod cutoff;
 mod cutoff_lines;
 pub mod devices;
 mod endings;
-mod entrants;
 pub mod laws;
 mod lines;
 mod log;
 mod matched;
 mod pages;
 mod piece;
-mod reason;
 mod reason_lines;
 mod reply;
 mod report;
+mod standing_rows;
 mod student_texts;
 mod table;
 mod text;
@@ -25,16 +23,18 @@ mod watched;
 mod whole;
 
 pub use comparing::first_difference;
-pub use cutoff::{Cutoff, CutoffRow, cutoffs, rows_in_order};
 pub use cutoff_lines::{cutoff_text, push_cutoff};
-pub use entrants::{Entrant, entrant_at, rising_entrants};
 pub use lines::push_draw;
 pub use log::log_text;
 pub use matched::Matched;
-pub use reason::{Reason, ReasonRow, reason_by, reasons};
 pub use reason_lines::{push_reason, reason_text};
 pub use reply::reply_line;
 pub use report::{ReportFault, write_report, write_report_of};
+pub use sc_reasons::{
+    Cutoff, CutoffRow, Entrant, Reason, ReasonRow, entrant_at, reason_by, rising_entrants,
+    rows_in_order,
+};
+pub use standing_rows::{cutoffs, reasons};
 pub use table::{Table, table_named, table_text};
 pub use text::{assignment_text, report_text, report_text_of};
 pub use watched::{DeviceFailed, Watched};

@@ -3,11 +3,9 @@ ghost use Rattle.std.specs.Prelude.{◌≡◌, ◌++◌, codes, IfOk, OnOk};
 ghost use Rattle.sc_repair.specs.Standing.{matching_of};
 ghost use Rattle.sc_report.specs.ReasonText.{reason_text, reason_word};
 
-use crate::cutoff::rows_in_order;
-use crate::entrants::rising_entrants;
-use crate::reason::Reason;
 use crate::student_texts::student_texts;
 use sc_papers::FlatPapers;
+use sc_reasons::{Reason, rising_entrants, rows_in_order};
 use sc_repair::Clearing;
 use sc_tallies::places_of;
 use std::alloc::{AllocError, Global};

@@ -2,23 +2,21 @@
 ghost use Rattle.std.specs.Prelude.{◌≡◌, ◌+◌, ◌≤◌, ◌++◌, codes, decimal, flat_map, length, map, take, true, All, IfOk};
 ghost use Rattle.sc_papers.specs.Market.{schools_of};
 ghost use Rattle.sc_papers.specs.Matching.{Matching};
-ghost use Rattle.sc_report.specs.Cutoff.{rows_in_order};
+ghost use Rattle.sc_reasons.specs.Cutoff.{rows_in_order};
+ghost use Rattle.sc_reasons.specs.Entrants.{numbers_of, Holds, StandsAt};
+ghost use Rattle.sc_reasons.specs.Reason.{reasons_of};
 ghost use Rattle.sc_report.specs.Endings.{piece_text, place_ending, HaveEndings};
-ghost use Rattle.sc_report.specs.Entrants.{numbers_of, Holds, StandsAt};
 ghost use Rattle.sc_report.specs.Pages.{text_so_far, IsAsLong};
-ghost use Rattle.sc_report.specs.Reason.{reasons_of};
 ghost use Rattle.sc_report.specs.ReasonText.{reason_line, reason_lines};
 ghost use Rattle.sc_report.specs.Text.{assignment_line, assignment_lines};
 ghost use Rattle.sc_report.specs.declared.pages.TheConstants.{LINES};
 ghost use Rattle.sc_report.specs.declared.piece.TheConstants.{LINE};
 
-use crate::cutoff::CutoffRow;
 use crate::endings::Endings;
-use crate::entrants::Entrant;
 use crate::pages::{DRAFT, Pages};
 use crate::piece::{Piece, put_line};
-use crate::reason::missed;
 use sc_papers::{FlatPapers, MOST_STUDENTS, SchoolNo};
+use sc_reasons::{CutoffRow, Entrant, missed};
 use std::alloc::{AllocError, Global};
 
 /// The line above the assignment's lines.

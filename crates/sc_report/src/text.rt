@@ -1,21 +1,20 @@
 ghost use Rattle.std.specs.Prelude.{◌≡◌, ◌++◌, length, IfOk, OnOk};
 ghost use Rattle.sc_papers.specs.Market.{Market};
 ghost use Rattle.sc_papers.specs.Matching.{Matching};
+ghost use Rattle.sc_reasons.specs.Cutoff.{cutoff_rows, rows_in_order};
 ghost use Rattle.sc_repair.specs.Standing.{matching_of};
-ghost use Rattle.sc_report.specs.Cutoff.{cutoff_rows, rows_in_order};
 ghost use Rattle.sc_report.specs.CutoffText.{cutoff_lines};
 ghost use Rattle.sc_report.specs.Pages.{text_so_far};
 ghost use Rattle.sc_report.specs.Text.{assignment_text, IsReportText};
 ghost use Rattle.sc_tallies.specs.Places.{ArePlaces};
 ghost use Rattle.sc_tallies.specs.Tally.{AreTallies, IsForEachSchool};
 
-use crate::cutoff::{CutoffRow, rising_rows, rows_by_tallies, rows_in_order};
 use crate::cutoff_lines::push_cutoffs;
-use crate::entrants::rising_entrants;
 use crate::matched::Matched;
 use crate::pages::Pages;
 use crate::student_texts::student_texts;
 use sc_papers::{FlatPapers, SchoolNo};
+use sc_reasons::{CutoffRow, rising_entrants, rising_rows, rows_by_tallies, rows_in_order};
 use sc_repair::Clearing;
 use sc_tallies::places_of;
 use std::alloc::{AllocError, Global};

@@ -9,7 +9,7 @@ use Rattle.sc_journal.specs.Journal.{journal_text, IsFirstFault}
 use Rattle.sc_journal.specs.declared.fault.JournalFault.{JournalFault}
 use Rattle.sc_journal.specs.declared.journal.Tail.{Tail}
 use Rattle.sc_tallies.proofs.Tallying.{take-one}
-use Rattle.sc_report.specs.declared.entrants.Entrant.{Entrant}
+use Rattle.sc_reasons.specs.declared.entrants.Entrant.{Entrant}
 use Rattle.sc_notices.proofs.RankLemmas.{counted-more}
 use Rattle.sc_runs.specs.Changing.{whole_lines, AreFirstLines, ChangesFiles, IsChange, TellsChange}
 use Rattle.sc_runs.specs.Inputs.{in_order, Texts, Turn, AreRead}

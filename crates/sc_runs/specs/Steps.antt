@@ -13,10 +13,10 @@ use Rattle.sc_papers.specs.Matching.{IsStudentOptimal, Matching}
 use Rattle.sc_papers.specs.Reordering.{IsReordering}
 use Rattle.sc_papers.specs.declared.amendment.Refusal.{Refusal}
 use Rattle.sc_papers.specs.declared.amendment.Stamped.{Stamped}
-use Rattle.sc_report.specs.Entrants.{AreRising, Holds}
+use Rattle.sc_reasons.specs.Entrants.{AreRising, Holds}
 use Rattle.sc_report.specs.Table.{table_text}
 use Rattle.sc_report.specs.Whole.{AppendsPrefix}
-use Rattle.sc_report.specs.declared.entrants.Entrant.{Entrant}
+use Rattle.sc_reasons.specs.declared.entrants.Entrant.{Entrant}
 use Rattle.sc_report.specs.Watched.{device_of}
 use Rattle.sc_report.specs.declared.watched.Watched.{Watched}
 use Rattle.sc_stamps.specs.Verdict.{StampedPapers}

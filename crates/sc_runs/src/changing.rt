@@ -6,7 +6,7 @@ ghost use Rattle.sc_intake.specs.declared.fault.Source.TheVariants as input;
 ghost use Rattle.sc_papers.specs.Market.{Market};
 ghost use Rattle.sc_papers.specs.Matching.{Matching};
 ghost use Rattle.sc_repair.specs.Standing.{matching_of};
-ghost use Rattle.sc_report.specs.Entrants.{AreRising, Holds};
+ghost use Rattle.sc_reasons.specs.Entrants.{AreRising, Holds};
 ghost use Rattle.sc_report.specs.Watched.{device_of};
 ghost use Rattle.sc_notices.specs.ChangesText.{changes_text};
 ghost use Rattle.sc_runs.specs.Changing.{whole_lines, AreFirstLines, ChangesFiles, TellsChange};

@@ -3,7 +3,7 @@ use Rattle.std.proofs.lemmas.List.{take_all}
 use Rattle.std.proofs.lemmas.Map.Entries.{length-keys_of}
 use Rattle.sc_papers.specs.Market.{schools_of}
 use Rattle.sc_tallies.proofs.Tallying.{take-one}
-use Rattle.sc_report.specs.Rising.{rising}
+use Rattle.sc_reasons.specs.Rising.{rising}
 use Rattle.sc_notices.proofs.AdmissionLemmas.{sorted-rising}
 use Rattle.sc_notices.proofs.admissions.rising_schools.Goals as goal
 

@@ -1,5 +1,5 @@
 use Rattle.std.proofs.Common.{◌∙◌, Some, ap, sym}
-use Rattle.sc_report.specs.declared.entrants.Entrant.{Entrant}
+use Rattle.sc_reasons.specs.declared.entrants.Entrant.{Entrant}
 use Rattle.sc_notices.proofs.ChangeLemmas.{searched-nobody, searched-place}
 use Rattle.sc_notices.proofs.changes.place_among.Goals as goal
 

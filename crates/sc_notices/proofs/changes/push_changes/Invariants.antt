@@ -4,7 +4,7 @@ use Rattle.std.specs.Prelude.{flat_map}
 use Rattle.sc_papers.specs.Market.{Market}
 use Rattle.sc_papers.specs.Matching.{Matching}
 use Rattle.sc_repair.specs.Standing.{matching_of}
-use Rattle.sc_report.specs.Entrants.{AreRising, Holds}
+use Rattle.sc_reasons.specs.Entrants.{AreRising, Holds}
 use Rattle.sc_notices.specs.Changes.{differ, place_in}
 use Rattle.sc_notices.specs.ChangesText.{change_line}
 use Rattle.sc_notices.proofs.changes.push_changes.Given as goal

@@ -1,4 +1,4 @@
-use Rattle.sc_report.proofs.CutoffLemmas.{cutoff-read}
+use Rattle.sc_reasons.proofs.CutoffLemmas.{cutoff-read}
 use Rattle.sc_notices.proofs.explanation.cutoff_of.Goals as goal
 
 pub returns : goal.returns

@@ -8,7 +8,7 @@ use Rattle.sc_papers.specs.Market.{is_student, students_of}
 use Rattle.sc_papers.proofs.Hands.{has-position}
 use Rattle.sc_papers.proofs.Positions.{among-student, position-among, position-there}
 use Rattle.sc_repair.specs.Standing.{matching_of}
-use Rattle.sc_report.specs.Entrants.{Holds}
+use Rattle.sc_reasons.specs.Entrants.{Holds}
 use Rattle.sc_notices.specs.ExplanationText.{explanation_lines}
 use Rattle.sc_notices.proofs.ExplanationLemmas.{explained-one}
 use Rattle.sc_notices.proofs.explanation.explanation_of.Goals as goal

@@ -1,7 +1,7 @@
 use Rattle.std.proofs.Common.{ap, subst, sym, ◌∙◌, All}
 use Rattle.sc_papers.specs.Assignment.{assigned}
 use Rattle.sc_repair.specs.Standing.{matching_of}
-use Rattle.sc_report.specs.Entrants.{numbers_of, Holds}
+use Rattle.sc_reasons.specs.Entrants.{numbers_of, Holds}
 use Rattle.sc_notices.proofs.ExplanationLemmas.{explained}
 use Rattle.sc_notices.proofs.explanation.explanation_text.Goals as goal
 

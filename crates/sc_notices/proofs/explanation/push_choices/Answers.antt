@@ -7,7 +7,7 @@ use Rattle.sc_papers.specs.Market.{choices_of}
 use Rattle.sc_papers.proofs.Choices.{places-end}
 use Rattle.sc_papers.proofs.Hands.{hand-is}
 use Rattle.sc_papers.proofs.Students.{choices-short}
-use Rattle.sc_report.specs.Reason.{reason_by}
+use Rattle.sc_reasons.specs.Reason.{reason_by}
 use Rattle.sc_notices.specs.Explanation.{is_given, outcome_by}
 use Rattle.sc_notices.specs.Lottery.{ticket_of}
 use Rattle.sc_notices.specs.ExplanationText.{choice_line}

@@ -4,8 +4,8 @@ use Rattle.std.proofs.Common.{◌≡◌, ◌++◌, ◌≤◌, ◌-◌, length, t
 use Rattle.std.specs.Prelude.{flat_map}
 use Rattle.sc_papers.specs.Market.{choices_of}
 use Rattle.sc_papers.specs.Matching.{Matching}
-use Rattle.sc_report.specs.Cutoff.{rows_in_order}
-use Rattle.sc_report.specs.Entrants.{Holds}
+use Rattle.sc_reasons.specs.Cutoff.{rows_in_order}
+use Rattle.sc_reasons.specs.Entrants.{Holds}
 use Rattle.sc_notices.specs.Explanation.{has_before}
 use Rattle.sc_notices.specs.ExplanationText.{choice_line}
 use Rattle.sc_notices.proofs.ExplanationLemmas.{ranked}

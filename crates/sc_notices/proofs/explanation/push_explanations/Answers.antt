@@ -1,7 +1,7 @@
 use Rattle.std.proofs.Common.{ap, subst, sym, ◌∙◌, ◌++◌}
 use Rattle.std.specs.Prelude.{codes}
-use Rattle.sc_report.specs.Entrants.{Holds}
-use Rattle.sc_report.specs.declared.entrants.Entrant.{Entrant}
+use Rattle.sc_reasons.specs.Entrants.{Holds}
+use Rattle.sc_reasons.specs.declared.entrants.Entrant.{Entrant}
 use Rattle.sc_report.proofs.LineLemmas.{lines-all, lines-map, lines-more}
 use Rattle.sc_notices.specs.ExplanationText.{student_lines}
 use Rattle.sc_notices.proofs.explanation.push_explanations.Goals as goal

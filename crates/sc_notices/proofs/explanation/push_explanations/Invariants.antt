@@ -2,8 +2,8 @@
 use Rattle.std.proofs.Common.{◌≡◌, ◌++◌, take, All}
 use Rattle.std.specs.Prelude.{flat_map}
 use Rattle.sc_papers.specs.Matching.{Matching}
-use Rattle.sc_report.specs.Cutoff.{rows_in_order}
-use Rattle.sc_report.specs.Entrants.{Holds}
+use Rattle.sc_reasons.specs.Cutoff.{rows_in_order}
+use Rattle.sc_reasons.specs.Entrants.{Holds}
 use Rattle.sc_notices.specs.ExplanationText.{student_lines}
 use Rattle.sc_notices.proofs.explanation.push_explanations.Given as goal
 

@@ -1,7 +1,7 @@
 use Rattle.std.proofs.Common.{◌∙◌, ◌∷◌, [], ap, arith, length, length-append, map}
 use Rattle.std.proofs.lemmas.List.{take_all}
 use Rattle.sc_notices.specs.Lottery.{cutoff_rank}
-use Rattle.sc_report.specs.declared.cutoff.CutoffRow.{CutoffRow}
+use Rattle.sc_reasons.specs.declared.cutoff.CutoffRow.{CutoffRow}
 use Rattle.sc_notices.proofs.LotteryLemmas.{ranks-more, row-cutoff}
 use Rattle.sc_notices.proofs.lottery.cutoff_ranks.Goals as goal
 

@@ -1,7 +1,7 @@
 -- The ranks of the first rows' cutoffs were found.
 use Rattle.std.proofs.Common.{◌≡◌, length, map, take}
 use Rattle.sc_papers.specs.Matching.{Matching}
-use Rattle.sc_report.specs.Cutoff.{rows_in_order}
+use Rattle.sc_reasons.specs.Cutoff.{rows_in_order}
 use Rattle.sc_notices.specs.Lottery.{cutoff_rank}
 use Rattle.sc_notices.proofs.lottery.cutoff_ranks.Given as goal
 

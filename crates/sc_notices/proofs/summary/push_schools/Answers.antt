@@ -2,9 +2,9 @@ use Rattle.std.proofs.Common.{ap, sym, ◌∙◌, ◌++◌, ℕ, List}
 use Rattle.std.specs.Prelude.{codes, flat_map}
 use Rattle.sc_papers.specs.Market.{schools_of}
 use Rattle.sc_repair.specs.Standing.{matching_of}
-use Rattle.sc_report.specs.Cutoff.{cutoff_row}
-use Rattle.sc_report.specs.Rising.{rising}
-use Rattle.sc_report.specs.declared.cutoff.CutoffRow.{CutoffRow}
+use Rattle.sc_reasons.specs.Cutoff.{cutoff_row}
+use Rattle.sc_reasons.specs.Rising.{rising}
+use Rattle.sc_reasons.specs.declared.cutoff.CutoffRow.{CutoffRow}
 use Rattle.sc_report.proofs.LineLemmas.{lines-all, lines-map, lines-more}
 use Rattle.sc_notices.specs.Summary.{listed}
 use Rattle.sc_notices.specs.SummaryText.{row_line}

@@ -1,7 +1,7 @@
 -- The line of each school so far was added.
 use Rattle.std.proofs.Common.{◌≡◌, ◌++◌, take}
 use Rattle.std.specs.Prelude.{flat_map}
-use Rattle.sc_report.specs.declared.cutoff.CutoffRow.{CutoffRow}
+use Rattle.sc_reasons.specs.declared.cutoff.CutoffRow.{CutoffRow}
 use Rattle.sc_notices.specs.Summary.{listed}
 use Rattle.sc_notices.specs.SummaryText.{row_line}
 use Rattle.sc_notices.proofs.summary.push_schools.Given as goal

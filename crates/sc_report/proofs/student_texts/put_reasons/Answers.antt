@@ -7,13 +7,13 @@ use Rattle.sc_papers.specs.Key.{key_of}
 use Rattle.sc_papers.specs.Market.{schools_of}
 use Rattle.sc_papers.specs.Matching.{Matching}
 use Rattle.sc_papers.proofs.Positions.{position-there}
-use Rattle.sc_report.specs.Cutoff.{cutoff_row, rows_in_order}
+use Rattle.sc_reasons.specs.Cutoff.{cutoff_row, rows_in_order}
+use Rattle.sc_reasons.specs.Reason.{reason_row, reasons_of}
+use Rattle.sc_reasons.proofs.ReasonLemmas.{missed-few, missed-long, missed-there, missed-within}
 use Rattle.sc_report.specs.Endings.{piece_text}
-use Rattle.sc_report.specs.Reason.{reason_row, reasons_of}
 use Rattle.sc_report.specs.ReasonText.{reason_line}
 use Rattle.sc_report.proofs.EndingLemmas.{line-joined}
 use Rattle.sc_report.proofs.LineLemmas.{lines-more}
-use Rattle.sc_report.proofs.ReasonLemmas.{missed-few, missed-long, missed-there, missed-within}
 use Rattle.sc_report.proofs.student_texts.put_reasons.Goals as goal
 
 pub ending-ending-requires : goal.ending-ending-requires

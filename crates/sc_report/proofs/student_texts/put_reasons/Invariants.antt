@@ -1,10 +1,10 @@
 -- The lines so far are those of the student's first rows, by whichever matching the endings were made.
 use Rattle.std.proofs.Common.{◌≡◌, ◌*◌, ◌+◌, ◌++◌, ◌≤◌, flat_map, length, take}
 use Rattle.sc_papers.specs.Matching.{Matching}
-use Rattle.sc_report.specs.Cutoff.{rows_in_order}
+use Rattle.sc_reasons.specs.Cutoff.{rows_in_order}
+use Rattle.sc_reasons.specs.Entrants.{Holds}
+use Rattle.sc_reasons.specs.Reason.{reasons_of}
 use Rattle.sc_report.specs.Endings.{HaveEndings}
-use Rattle.sc_report.specs.Entrants.{Holds}
-use Rattle.sc_report.specs.Reason.{reasons_of}
 use Rattle.sc_report.specs.ReasonText.{reason_line}
 use Rattle.sc_report.proofs.student_texts.put_reasons.Given as goal
 

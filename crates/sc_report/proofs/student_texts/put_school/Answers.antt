@@ -4,7 +4,7 @@ use Rattle.std.specs.Prelude.{codes}
 use Rattle.std.proofs.lemmas.Option.{slice_get-map}
 use Rattle.sc_papers.specs.Market.{schools_of}
 use Rattle.sc_papers.proofs.Positions.{position-there}
-use Rattle.sc_report.specs.Cutoff.{cutoff_row, rows_in_order}
+use Rattle.sc_reasons.specs.Cutoff.{cutoff_row, rows_in_order}
 use Rattle.sc_report.specs.Endings.{piece_text}
 use Rattle.sc_report.proofs.student_texts.put_school.Goals as goal
 

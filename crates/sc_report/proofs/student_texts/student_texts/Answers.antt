@@ -2,13 +2,13 @@ use Rattle.std.proofs.Common.{ap, arith, codes, decimal, subst, sym, take, ◌�
 use Rattle.std.specs.Prelude.{flat_map}
 use Rattle.std.proofs.lemmas.Bool.{false≢true}
 use Rattle.std.proofs.lemmas.List.{take_all}
+use Rattle.sc_reasons.specs.Entrants.{Holds}
+use Rattle.sc_reasons.specs.Reason.{reasons_of}
+use Rattle.sc_reasons.specs.declared.entrants.Entrant.{Entrant}
 use Rattle.sc_report.specs.Endings.{HaveEndings}
-use Rattle.sc_report.specs.Entrants.{Holds}
 use Rattle.sc_report.specs.Pages.{text_so_far}
-use Rattle.sc_report.specs.Reason.{reasons_of}
 use Rattle.sc_report.specs.ReasonText.{reason_line}
 use Rattle.sc_report.specs.Text.{assignment_line}
-use Rattle.sc_report.specs.declared.entrants.Entrant.{Entrant}
 use Rattle.sc_report.proofs.EndingLemmas.{endings-long}
 use Rattle.sc_report.proofs.LineLemmas.{lines-flat, lines-map, lines-more}
 use Rattle.sc_report.proofs.PageLemmas.{draft-grew, page-grew}

@@ -2,10 +2,10 @@
 use Rattle.std.proofs.Common.{◌≡◌, ◌++◌, ◌≤◌, codes, length, take, true, All}
 use Rattle.std.specs.Prelude.{flat_map}
 use Rattle.sc_papers.specs.Matching.{Matching}
-use Rattle.sc_report.specs.Cutoff.{rows_in_order}
-use Rattle.sc_report.specs.Entrants.{Holds}
+use Rattle.sc_reasons.specs.Cutoff.{rows_in_order}
+use Rattle.sc_reasons.specs.Entrants.{Holds}
+use Rattle.sc_reasons.specs.Reason.{reasons_of}
 use Rattle.sc_report.specs.Pages.{text_so_far}
-use Rattle.sc_report.specs.Reason.{reasons_of}
 use Rattle.sc_report.specs.ReasonText.{reason_line}
 use Rattle.sc_report.specs.Text.{assignment_line}
 use Rattle.sc_report.proofs.student_texts.student_texts.Given as goal

@@ -2,10 +2,10 @@ use Rattle.std.proofs.Common.{ap, map, subst, sym, ◌≡◌, ◌∙◌, All}
 use Rattle.std.proofs.lemmas.Result.{IfOk-weaker}
 use Rattle.sc_papers.specs.Assignment.{assigned}
 use Rattle.sc_papers.specs.Market.{students_of}
+use Rattle.sc_reasons.specs.Entrants.{numbers_of, Holds}
+use Rattle.sc_reasons.specs.Rising.{rising}
 use Rattle.sc_repair.specs.Standing.{matching_of}
-use Rattle.sc_report.specs.Entrants.{numbers_of, Holds}
 use Rattle.sc_report.specs.Pages.{text_so_far}
-use Rattle.sc_report.specs.Rising.{rising}
 use Rattle.sc_report.specs.Text.{assignment_lines, assignment_text}
 use Rattle.sc_report.proofs.text.assignment_text.Goals as goal
 

@@ -1,5 +1,5 @@
 use Rattle.std.proofs.Common.{ap, ◌∙◌, ◌++◌}
-use Rattle.sc_report.specs.Cutoff.{cutoff_rows}
+use Rattle.sc_reasons.specs.Cutoff.{cutoff_rows}
 use Rattle.sc_report.specs.CutoffText.{cutoff_lines}
 use Rattle.sc_report.proofs.PageLemmas.{page-grew}
 use Rattle.sc_report.proofs.text.push_cutoff_text.Goals as goal

@@ -2,10 +2,10 @@ use Rattle.std.proofs.Common.{refl, ap, subst, sym, ◌∙◌, ◌++◌, All}
 use Rattle.std.specs.Prelude.{flat_map}
 use Rattle.sc_tallies.specs.Places.{ArePlaces}
 use Rattle.sc_tallies.specs.Tally.{AreTallies}
-use Rattle.sc_report.specs.Cutoff.{cutoff_rows}
-use Rattle.sc_report.specs.Entrants.{numbers_of, Holds}
+use Rattle.sc_reasons.specs.Cutoff.{cutoff_rows}
+use Rattle.sc_reasons.specs.Entrants.{numbers_of, Holds}
 use Rattle.sc_report.specs.Pages.{text_so_far}
-use Rattle.sc_report.specs.Reason.{reasons_of}
+use Rattle.sc_reasons.specs.Reason.{reasons_of}
 use Rattle.sc_report.proofs.LineLemmas.{report-joined}
 use Rattle.sc_report.proofs.text.report_pages.Goals as goal
 

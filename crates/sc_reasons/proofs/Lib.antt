@@ -1,0 +1,4 @@
+pub mod RisingLemmas
+pub mod EntrantLemmas
+pub mod CutoffLemmas
+pub mod ReasonLemmas

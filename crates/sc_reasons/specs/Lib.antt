@@ -1,0 +1,4 @@
+pub mod Rising
+pub mod Entrants
+pub mod Cutoff
+pub mod Reason
