@@ -1,1 +1,3 @@
 pub mod Number
+pub mod Fields
+pub mod Representation

@@ -30,8 +30,8 @@ use Rattle.sc_intake.specs.declared.lists.ListRow.{ListRow}
 use Rattle.sc_intake.specs.declared.roster.RosterRow.{RosterRow}
 use Rattle.sc_intake.specs.declared.schools.SchoolRow.{SchoolRow}
 use Rattle.sc_intake.proofs.InStep.{filled-in-step, in-step, in-step-parts}
-use Rattle.sc_journal.specs.Line.{list_text}
-use Rattle.sc_journal.specs.Spelling.{IsSchool, IsSchoolOrNone}
+use Rattle.sc_lines.specs.Line.{list_text}
+use Rattle.sc_lines.specs.Spelling.{IsSchool, IsSchoolOrNone}
 use Rattle.sc_export.specs.Files.{continues, continuing_text, file_text, is_longer, list_fields, list_header, lists_text, roster_fields, roster_header, roster_text, school_fields, school_header, schools_text}
 use Rattle.sc_export.specs.Ranges.{AreInRange, IsSchoolInRange, IsStudentInRange}
 use Rattle.sc_export.proofs.Fields.{continuing-ok, continuing-reads, continuing-tidy, decimal-tidy, kept, list-ok, list-reads, list-tidy, number-reads, within-ok}

@@ -18,8 +18,8 @@ use Rattle.sc_intake.specs.Blanks.{is_blank, trim_start, trimmed}
 use Rattle.sc_intake.specs.Field.{all_schools, as_school_or_none, is_within, numbers_in, number_of, number_or_none, numbers_after, within, word_of, words, words_after}
 use Rattle.sc_intake.specs.declared.blanks.Blanks.TheVariants.{InLine}
 use Rattle.sc_intake.specs.declared.fault.Cause.TheVariants.{Number}
-use Rattle.sc_journal.specs.Line.{further_text, list_text}
-use Rattle.sc_journal.specs.Spelling.{IsSchool, IsSchoolOrNone}
+use Rattle.sc_lines.specs.Line.{further_text, list_text}
+use Rattle.sc_lines.specs.Spelling.{IsSchool, IsSchoolOrNone}
 use Rattle.sc_export.specs.Files.{continuing_text}
 
 -- ---- no blank is taken away

@@ -18,8 +18,8 @@ use Rattle.csv.specs.declared.parser.State.TheVariants as st
 use Rattle.csv.proofs.RoundTrip.{read-write-many}
 use Rattle.sc_decimal.proofs.Spelling.{own}
 use Rattle.sc_intake.proofs.Cutting.{records_from-more, records_from-none}
-use Rattle.sc_journal.specs.Line.{further_text, list_text}
-use Rattle.sc_journal.specs.Spelling.{IsSchool, IsSchoolOrNone}
+use Rattle.sc_lines.specs.Line.{further_text, list_text}
+use Rattle.sc_lines.specs.Spelling.{IsSchool, IsSchoolOrNone}
 use Rattle.sc_export.specs.Files.{continuing_text, row_text}
 
 -- a digit, a letter, or a space

@@ -5,8 +5,8 @@ use Rattle.std.specs.Fmt.{decimal}
 use Rattle.std.specs.List.{All}
 use Rattle.std.proofs.lemmas.Fmt.{length-decimal-le}
 use Rattle.std.proofs.lemmas.List.Elements.{All-head, All-tail}
-use Rattle.sc_journal.specs.Line.{further_text, list_text}
-use Rattle.sc_journal.specs.Spelling.{IsSchool, IsSchoolOrNone}
+use Rattle.sc_lines.specs.Line.{further_text, list_text}
+use Rattle.sc_lines.specs.Spelling.{IsSchool, IsSchoolOrNone}
 use Rattle.sc_export.specs.Files.{continuing_text, row_text}
 
 -- a number of at most nine digits

@@ -5,7 +5,7 @@ use Rattle.std.specs.List.{join_with_byte, list_any}
 use Rattle.sc_papers.specs.Market.{Market}
 use Rattle.sc_papers.specs.declared.records.School.{School}
 use Rattle.sc_papers.specs.declared.records.Student.{Student}
-use Rattle.sc_journal.specs.Line.{list_text}
+use Rattle.sc_lines.specs.Line.{list_text}
 
 -- a row: its fields with a comma, byte 44, between each two, and a newline
 abbrev pub row_text : List (List ℕ) → List ℕ

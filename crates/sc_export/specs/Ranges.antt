@@ -3,7 +3,7 @@ use Rattle.std.specs.Prelude.{ℕ, All}
 use Rattle.sc_papers.specs.Market.{Market}
 use Rattle.sc_papers.specs.declared.records.School.{School}
 use Rattle.sc_papers.specs.declared.records.Student.{Student}
-use Rattle.sc_journal.specs.Spelling.{IsSchool, IsStudent, IsZone}
+use Rattle.sc_lines.specs.Spelling.{IsSchool, IsStudent, IsZone}
 
 -- a school's number and its zone
 abbrev pub IsSchoolInRange : ℕ × School → Type 0

@@ -4,7 +4,7 @@ ghost use Rattle.sc_export.specs.Files.{list_fields, lists_text, row_text};
 
 use crate::entries::student_entry;
 use sc_decimal::push_number;
-use sc_journal::push_list;
+use sc_lines::push_list;
 use sc_papers::{Papers, Student, StudentNo};
 use std::alloc::AllocError;
 

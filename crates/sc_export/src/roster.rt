@@ -1,13 +1,13 @@
 //! The roster, in its longer form where somebody continues at a school.
 ghost use Rattle.std.specs.Prelude.{◌≡◌, ◌++◌, ◌∷◌, [], OnOk, All, codes, decimal, flat_map, map, if◌then◌else◌};
 ghost use Rattle.std.specs.List.{join_with_byte};
-ghost use Rattle.sc_journal.specs.Line.{list_text};
+ghost use Rattle.sc_lines.specs.Line.{list_text};
 ghost use Rattle.sc_export.specs.Files.{continuing_text, is_longer, roster_fields, roster_header, roster_text, row_text};
 ghost use Rattle.sc_export.specs.Ranges.{IsStudentInRange};
 
 use crate::entries::student_entry;
 use sc_decimal::push_number;
-use sc_journal::push_list;
+use sc_lines::push_list;
 use sc_papers::{Papers, SchoolNo, Student, StudentNo};
 use std::alloc::AllocError;
 

@@ -1,7 +1,6 @@
 -- A replay has one answer.
 use Rattle.std.proofs.Common.{◌≡◌, ◌≢◌, ℕ, ◌+◌, ◌≤◌, false, List, [], ◌∷◌, ◌++◌, length, get_or, refl, sym, ◌∙◌, ap, arith, append_assoc}
 use Rattle.std.specs.Prelude.{◌==◌, codes, None, Some}
-use Rattle.std.specs.Int.{IsInRange}
 use Rattle.std.specs.List.{All}
 use Rattle.std.proofs.lemmas.Bool.Decides.{nat_tests}
 use Rattle.std.proofs.lemmas.List.Elements.{All-head, All-tail}
@@ -10,14 +9,14 @@ use Rattle.sc_papers.specs.Verdict.{verdict}
 use Rattle.sc_papers.specs.declared.amendment.Amendment.{Amendment}
 use Rattle.sc_stamps.specs.Verdict.{StampedPapers, stamped_after}
 use Rattle.sc_journal.specs.Journal.{after_all, AreAccepted, IsCause, IsFirstFault, IsReplay, IsReplayed, IsUnbroken, journal_text, tail_of}
-use Rattle.sc_journal.specs.Line.{line_text}
-use Rattle.sc_journal.specs.Spelling.{IsInRanges, IsLineOf}
+use Rattle.sc_lines.specs.Line.{line_text}
+use Rattle.sc_lines.specs.Spelling.{IsInRanges, IsLineOf}
 use Rattle.sc_journal.specs.declared.fault.JournalCause.{JournalCause}
 use Rattle.sc_journal.specs.declared.fault.JournalCause.TheVariants.{Shape, Number, JournalFull, Refused, OutOfMemory}
 use Rattle.sc_journal.specs.declared.fault.JournalFault.{JournalFault}
 use Rattle.sc_journal.specs.declared.journal.Tail.{Tail}
-use Rattle.sc_journal.proofs.Records.{AreSame, line-free, one-line}
-use Rattle.sc_journal.proofs.Words.{IsFree}
+use Rattle.sc_lines.proofs.Records.{is-line, line-free, one-line}
+use Rattle.sc_lines.proofs.Words.{IsFree}
 
 -- what stands before a first newline and after it
 record AreCut (xs ys rest more : List ℕ) : Type 0 where
@@ -70,10 +69,6 @@ stops-fault : (m : Market) (number : ℕ) (line rest : List ℕ) (cause : Journa
 stops-fault m number line rest cause free why text a more is accepted e =
     let cut = cut-one line text rest more free (line-unbroken text number a is) (sym (append_assoc line (codes "\n") rest) ∙ e) in
     not-taken m number line cause a why (rw cut.before is) accepted
-
--- a line's text is the line of its amendment
-is-line : (number : ℕ) (a : Amendment) → 1 ≤ number → number ≤ 999999999 → IsInRanges a → IsLineOf (line_text number a) number a
-is-line number a least greatest ok = record { number_in_range = (least, greatest); amendment_in_ranges = ok; spelled = refl }
 
 -- the same amendments, and the same bytes after them
 record AreReplays (xs ys : List Amendment) (rest more : List ℕ) : Type 0 where
@@ -181,8 +176,3 @@ one-fault before bytes f g a b =
     let why : IsCause a.now.papers f.line a.line g.cause = rw (papers, number, cut.before) b.cause in
     let cause = one-cause a.now.papers f.line a.line f.cause g.cause a.cause why in
     same-fault f g number cause
-
--- the texts of two lines are the same only for one number and one amendment
-pub line-injective : (n k : ℕ) (a b : Amendment) → IsInRange 1 999999999 n → IsInRange 1 999999999 k → IsInRanges a → IsInRanges b → line_text n a ≡ line_text k b → AreSame n k a b
-line-injective n k a b rn rk ra rb e =
-    one-line (line_text n a) n k a b (is-line n a rn.0 rn.1 ra) (record { number_in_range = rk; amendment_in_ranges = rb; spelled = e })

@@ -6,7 +6,7 @@ use Rattle.sc_papers.specs.Verdict.{verdict}
 use Rattle.sc_papers.specs.declared.amendment.Amendment.{Amendment}
 use Rattle.sc_stamps.specs.Verdict.{StampedPapers, stamped_after}
 use Rattle.sc_journal.specs.Journal.{after_all, AreAccepted, journal_text}
-use Rattle.sc_journal.specs.Line.{line_text}
+use Rattle.sc_lines.specs.Line.{line_text}
 
 -- the papers and the stamps after one amendment more
 pub after-more : (p : StampedPapers) (xs : List Amendment) (a : Amendment) → after_all p (xs ++ a ∷ []) ≡ stamped_after (after_all p xs) a

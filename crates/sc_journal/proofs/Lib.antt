@@ -1,8 +1,3 @@
-pub mod Giving
-pub mod Words
-pub mod SplitWords
-pub mod TooManyFields
-pub mod Records
 pub mod Growing
 pub mod Stamping
 pub mod Replays

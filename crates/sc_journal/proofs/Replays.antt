@@ -7,9 +7,9 @@ use Rattle.sc_papers.specs.Verdict.{verdict}
 use Rattle.sc_stamps.specs.Verdict.{StampedPapers, stamped_after}
 use Rattle.sc_journal.proofs.Stamping.{accepted-after}
 use Rattle.sc_journal.specs.Journal.{IsCause, IsFirstFault, IsReplayed, IsReplayFault, journal_text, tail_of}
-use Rattle.sc_journal.specs.Line.{line_text}
+use Rattle.sc_lines.specs.Line.{line_text}
 use Rattle.sc_journal.specs.Replaying.{IsCauseOrMemory, IsLineEnd, IsTaken, line_of}
-use Rattle.sc_journal.specs.Spelling.{IsInRanges}
+use Rattle.sc_lines.specs.Spelling.{IsInRanges}
 use Rattle.sc_journal.proofs.Growing.{accepted-more, after-more, journal-more}
 use Rattle.sc_journal.specs.declared.fault.JournalCause.{JournalCause}
 use Rattle.sc_journal.specs.declared.fault.JournalCause.TheVariants.{OutOfMemory}

@@ -5,13 +5,13 @@ use Rattle.sc_papers.specs.Market.{Market}
 use Rattle.sc_papers.specs.Verdict.{verdict}
 use Rattle.sc_papers.specs.declared.amendment.Amendment.{Amendment}
 use Rattle.sc_stamps.specs.Verdict.{StampedPapers, stamped_after}
-use Rattle.sc_journal.specs.Line.{line_text}
-use Rattle.sc_journal.specs.Spelling.{IsInRanges, IsLineOf}
+use Rattle.sc_lines.specs.Line.{line_text}
+use Rattle.sc_lines.specs.Spelling.{IsInRanges, IsLineOf}
 use Rattle.sc_journal.specs.declared.fault.JournalCause.{JournalCause}
 use Rattle.sc_journal.specs.declared.fault.JournalCause.TheVariants.{Shape, Number, JournalFull, Refused, OutOfMemory}
 use Rattle.sc_journal.specs.declared.fault.JournalFault.{JournalFault}
 use Rattle.sc_journal.specs.declared.journal.Tail.{Tail}
-use Rattle.sc_journal.specs.declared.line_no.TheConstants.LineNo.{GREATEST as greatest_line}
+use Rattle.sc_lines.specs.declared.line_no.TheConstants.LineNo.{GREATEST as greatest_line}
 use Rattle.sc_journal.specs.declared.journal.Tail.TheVariants.{Whole, Torn}
 
 -- the lines of amendments, each with its newline, the first of which has this number

@@ -5,7 +5,7 @@ use Rattle.sc_papers.specs.Verdict.{verdict}
 use Rattle.sc_papers.specs.declared.amendment.Amendment.{Amendment}
 use Rattle.sc_stamps.specs.Verdict.{StampedPapers, stamped_after}
 use Rattle.sc_journal.specs.Journal.{IsCause, IsReplayed, IsUnbroken}
-use Rattle.sc_journal.specs.Spelling.{IsLineOf}
+use Rattle.sc_lines.specs.Spelling.{IsLineOf}
 use Rattle.sc_journal.specs.declared.fault.JournalCause.{JournalCause}
 use Rattle.sc_journal.specs.declared.fault.JournalCause.TheVariants.{Shape, Number, JournalFull, Refused, OutOfMemory}
 

@@ -2,15 +2,14 @@
 ghost use Rattle.std.specs.Prelude.{◌≡◌, ◌+◌, ◌≤◌, drop, length, IfOk, MatchOption, MatchResult};
 ghost use Rattle.sc_journal.specs.Journal.{tail_of, IsReplay, IsReplayFault, IsUnbroken};
 ghost use Rattle.sc_journal.specs.Replaying.{IsCauseOrMemory, IsEnd, IsLineEnd, IsReadCause, IsTaken};
-ghost use Rattle.sc_journal.specs.Spelling.{IsLineOf};
+ghost use Rattle.sc_lines.specs.Spelling.{IsLineOf};
 ghost use Rattle.sc_stamps.specs.Verdict.{unamended};
 ghost use Rattle.sc_repair.specs.Stamped.{stamped_papers};
 ghost use Rattle.sc_repair.specs.Standing.{proposals_from_scratch, IsCertified};
 
 use crate::fault::{JournalCause, JournalFault};
-use crate::line_no::LineNo;
-use crate::reading::read_line;
 use memchr::memchr;
+use sc_lines::{LineNo, read_line};
 use sc_papers::{Amendment, Papers, Refusal};
 use sc_repair::{Clearing, Unsettled};
 use std::alloc::Global;

@@ -1,25 +1,15 @@
 //! What the definitions of a journal come to. Each function does nothing: its contract is the law.
 ghost use Rattle.std.specs.Prelude.{◌≡◌, ℕ, ◌≤◌, List, length};
-ghost use Rattle.std.specs.Int.{IsInRange};
 ghost use Rattle.std.specs.List.{All};
 ghost use Rattle.sc_papers.specs.declared.amendment.Amendment.{Amendment};
 ghost use Rattle.sc_stamps.specs.Verdict.{StampedPapers};
 ghost use Rattle.sc_journal.specs.Journal.{after_all, journal_text, AreAccepted, IsFirstFault, IsReplay};
-ghost use Rattle.sc_journal.specs.Line.{line_text};
-ghost use Rattle.sc_journal.specs.Spelling.{IsInRanges};
+ghost use Rattle.sc_lines.specs.Spelling.{IsInRanges};
 ghost use Rattle.sc_journal.specs.declared.fault.JournalFault.{JournalFault};
 ghost use Rattle.sc_journal.specs.declared.journal.Tail.{Tail};
 ghost use Rattle.sc_journal.specs.declared.journal.Tail.TheVariants.{Whole};
 
-use crate::line_no::LineNo;
-
-/// Two lines are spelled alike only where they are of the same number and the same amendment.
-pub fn spellings_differ()
-    ensures number { (n k : ℕ) (a b : Amendment) → IsInRange 1 LineNo.GREATEST n → IsInRange 1 LineNo.GREATEST k
-        → IsInRanges a → IsInRanges b → line_text n a ≡ line_text k b → n ≡ k }
-    ensures amendment { (n k : ℕ) (a b : Amendment) → IsInRange 1 LineNo.GREATEST n → IsInRange 1 LineNo.GREATEST k
-        → IsInRanges a → IsInRanges b → line_text n a ≡ line_text k b → a ≡ b }
-{}
+use sc_lines::LineNo;
 
 /// The journal of amendments that papers accept in turn is replayed to the papers after them, order
 /// of entry included, and to the stamps after them.

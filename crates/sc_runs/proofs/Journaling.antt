@@ -19,7 +19,7 @@ use Rattle.sc_intake.specs.declared.fault.Cause.{Cause}
 use Rattle.sc_intake.specs.declared.fault.Cause.TheVariants.{Fields, Range}
 use Rattle.sc_intake.specs.declared.fault.Source.TheVariants.{Script}
 use Rattle.sc_journal.specs.Journal.{after_all, journal_text, AreAccepted, IsReplay}
-use Rattle.sc_journal.specs.Spelling.{IsInRanges, IsSchool, IsSchoolOrNone}
+use Rattle.sc_lines.specs.Spelling.{IsInRanges, IsSchool, IsSchoolOrNone}
 use Rattle.sc_journal.specs.declared.journal.Tail.TheVariants.{Whole}
 use Rattle.sc_journal.proofs.Stamping.{accepted-after}
 use Rattle.sc_runs.specs.Run.{accepted, accepted_in, after_record, after_script, unless_verdict}

@@ -11,7 +11,7 @@ use Rattle.sc_intake.specs.Fault.{◌>>=◌}
 use Rattle.sc_intake.specs.Script.{script_in}
 use Rattle.sc_intake.specs.declared.fault.IntakeFault.{IntakeFault}
 use Rattle.sc_journal.specs.Journal.{journal_text}
-use Rattle.sc_journal.specs.Line.{line_text}
+use Rattle.sc_lines.specs.Line.{line_text}
 use Rattle.sc_report.specs.Reply.{reply_text}
 use Rattle.sc_runs.specs.Inputs.{in_order, Texts, Turn, AreRead, EndsAmong}
 use Rattle.sc_runs.specs.Opening.{opening_in, IsReport}

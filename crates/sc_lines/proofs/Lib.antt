@@ -1,0 +1,5 @@
+pub mod Giving
+pub mod Words
+pub mod SplitWords
+pub mod TooManyFields
+pub mod Records
