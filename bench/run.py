@@ -113,7 +113,7 @@ def lay_out(source, target, suffix=""):
 def build_stopwatch(folder):
     """Proves and builds the stopwatch in a workspace of its own, and answers its path."""
     workspace = os.path.join(folder, "workspace")
-    apart = ("#", "clearinghouse", "sc_plain", "sc_rows", "sc_text_rows", "sc_growths", "sc_markets", "sc_words", "sc_program", "sc_runs",
+    apart = ("#", "clearinghouse", "sc_plain", "sc_rows", "sc_text_rows", "sc_growths", "sc_markets", "sc_words", "sc_program", "sc_runs", "sc_steps",
              "sc_lines", "sc_journal", "sc_export", "sc_notices", "sc_checks", "embed")
     with open(os.path.join(ROOT, "crates.txt")) as file:
         lines = [line for line in file if not line.startswith(apart)]

@@ -1,22 +1,21 @@
 -- Calls that read their inputs, by what reading them and then using them did.
-use Rattle.std.proofs.Common.{◌≡◌, ℕ, inl, inr, ap, Bool, List, [], ◌∷◌, ◌++◌, Option, Result, Ok, Err, ◌∙◌, subst}
+use Rattle.std.proofs.Common.{◌≡◌, ℕ, inr, ap, List, [], ◌∷◌, ◌++◌, Option, Result, Ok, Err, ◌∙◌, subst}
 use Rattle.std.specs.Result.{MatchResult}
 use Rattle.sc_papers.specs.Market.{Market}
 use Rattle.sc_intake.specs.declared.fault.IntakeFault.{IntakeFault}
-use Rattle.sc_runs.specs.Steps.{IsOpeningFault, IsReadingOf}
-use Rattle.std.proofs.lemmas.List.Elements.{All-nil}
+use Rattle.sc_steps.specs.Steps.{IsOpeningFault}
+use Rattle.sc_steps.specs.Inputs.{in_order, Texts, Turn, AreRead}
+use Rattle.sc_steps.specs.Opening.{opening_in, papers_in}
+use Rattle.sc_steps.specs.TwoWriters.{Contents}
+use Rattle.sc_steps.specs.declared.fault.RunFault.{RunFault}
+use Rattle.sc_runs.specs.Steps.{IsReadingOf}
 use Rattle.sc_intake.specs.Log.{log_in}
 use Rattle.sc_intake.specs.Script.{script_in}
 use Rattle.sc_runs.specs.declared.auditing.Audited.{Audited}
 use Rattle.sc_runs.specs.declared.replaying.Replayed.{Replayed}
 use Rattle.sc_runs.specs.Auditing.{claimed_in, AuditsFiles, WritesAudit}
-use Rattle.sc_runs.specs.Inputs.{in_order, Texts, Turn, AreRead, EndsAmong, EndsReading, IsUntouched}
-use Rattle.sc_runs.specs.Opening.{opening_in, papers_in, MatchesFiles, WritesMatch}
-use Rattle.sc_runs.specs.TwoWriters.{Contents}
 use Rattle.sc_runs.specs.Replaying.{ReplaysFiles, WritesReplay}
 use Rattle.sc_runs.specs.Run.{opened_in, RunsFiles, WritesRun}
-use Rattle.sc_runs.specs.declared.fault.RunFault.{RunFault}
-use Rattle.sc_runs.proofs.Reading.{All-untouched, EndsAmong-first, EndsAmong-later}
 
 -- files that are the texts that were read
 pub record AreTexts (texts : Texts) (schools roster lists : List ℕ) : Type 0 where
@@ -29,19 +28,6 @@ papers_in-texts seed texts schools roster lists same =
     ap (λ s. papers_in seed s roster lists) same.schools_same
     ∙ ap (λ r. papers_in seed texts.schools r lists) same.roster_same
     ∙ ap (λ l. papers_in seed texts.schools texts.roster l) same.lists_same
-
--- the files were read, and matched
-pub MatchesFiles-read : {A : Type 0} (seed : List ℕ) (show_log : Bool) (turns : List Turn) (texts : Texts) (old new : Option (List ℕ)) (result : Result A RunFault)
-    → AreRead turns (in_order texts) → WritesMatch show_log (opening_in seed texts) old new result → MatchesFiles seed show_log turns old new result
-MatchesFiles-read seed show_log turns texts old new result read wrote = inr (texts, read, wrote)
-
--- reading the files of the opening ended early, and the input after them was not come to
-pub EndsAmong-opening : (turns : List Turn) (turn : Turn) (fault : RunFault) → EndsAmong turns fault → IsUntouched turn → EndsAmong (turns ++ turn ∷ []) fault
-EndsAmong-opening turns turn fault ended untouched = EndsAmong-first turns (turn ∷ []) fault ended (All-untouched turn untouched)
-
--- reading the input after the files of the opening ended early
-pub EndsAmong-last : (turns : List Turn) (turn : Turn) (texts : List (List ℕ)) (fault : RunFault) → AreRead turns texts → EndsReading turn fault → EndsAmong (turns ++ turn ∷ []) fault
-EndsAmong-last turns turn texts fault read ended = EndsAmong-later turns (turn ∷ []) texts fault read (inl (ended, All-nil IsUntouched))
 
 -- the files and the log were read, and the log was audited
 pub AuditsFiles-read : (seed : List ℕ) (turns : List Turn) (texts : Texts) (log given : List ℕ) (old new : Option (List ℕ)) (result : Result Audited RunFault)

@@ -11,16 +11,16 @@ use Rattle.sc_journal.specs.declared.journal.Tail.{Tail}
 use Rattle.sc_tallies.proofs.Tallying.{take-one}
 use Rattle.sc_reasons.specs.declared.entrants.Entrant.{Entrant}
 use Rattle.sc_notices.proofs.RankLemmas.{counted-more}
+use Rattle.sc_steps.specs.Inputs.{in_order, Texts, Turn, AreRead}
+use Rattle.sc_steps.specs.Opening.{papers_in}
+use Rattle.sc_steps.specs.declared.fault.RunFault.{RunFault}
+use Rattle.sc_steps.specs.declared.fault.RunFault.TheVariants.{Read, Intake, Journal, WriteOut, WriteJournal, OutOfMemory}
+use Rattle.sc_steps.proofs.Openings.{Keeps-refl}
 use Rattle.sc_runs.specs.Changing.{whole_lines, AreFirstLines, ChangesFiles, IsChange, TellsChange}
-use Rattle.sc_runs.specs.Inputs.{in_order, Texts, Turn, AreRead}
-use Rattle.sc_runs.specs.Opening.{papers_in}
 use Rattle.sc_runs.specs.Standing.{IsStandingFault, WritesOfStanding}
 use Rattle.sc_runs.specs.Steps.{ArePlacesAfter, IsChangeFrom}
 use Rattle.sc_runs.specs.declared.changing.Changed.{Changed}
-use Rattle.sc_runs.specs.declared.fault.RunFault.{RunFault}
-use Rattle.sc_runs.specs.declared.fault.RunFault.TheVariants.{Read, Intake, Journal, WriteOut, WriteJournal, OutOfMemory}
 use Rattle.sc_runs.proofs.Calls.{papers_in-texts, AreTexts}
-use Rattle.sc_runs.proofs.Openings.{Keeps-refl}
 
 -- a text up to a newline begins with so many lines
 pub first-lines : (text lines : List ℕ) (k count : ℕ) → k < length text → get_or text k 0 ≡ 10 → lines ≡ take (k + 1) text → 1 + whole_lines (take k text) ≡ count → AreFirstLines count text lines

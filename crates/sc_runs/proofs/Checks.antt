@@ -9,15 +9,15 @@ use Rattle.sc_intake.specs.declared.fault.IntakeFault.{IntakeFault}
 use Rattle.sc_checks.specs.Checks.{every_fault}
 use Rattle.sc_checks.specs.FaultLines.{faults_text, files_of, Files, Names}
 use Rattle.sc_report.specs.Whole.{AppendsPrefix}
+use Rattle.sc_steps.specs.Inputs.{in_order, Texts, Turn, AreRead, IsReadIfAny}
+use Rattle.sc_steps.specs.Steps.{WritesExactly}
+use Rattle.sc_steps.specs.declared.fault.RunFault.{RunFault}
+use Rattle.sc_steps.specs.declared.fault.RunFault.TheVariants.{WriteOut}
+use Rattle.sc_steps.proofs.Openings.{Appends-prefix-kept, AppendsPrefix-whole}
 use Rattle.sc_runs.specs.Checking.{checked_of, ChecksFiles, WritesFaults}
-use Rattle.sc_runs.specs.Inputs.{in_order, Texts, Turn, AreRead, IsReadIfAny}
-use Rattle.sc_runs.specs.Steps.{WritesExactly}
 use Rattle.sc_runs.specs.declared.checking.Checked.{Checked}
 use Rattle.sc_runs.specs.declared.checking.Checked.TheVariants.{Clean, Faulty}
-use Rattle.sc_runs.specs.declared.fault.RunFault.{RunFault}
-use Rattle.sc_runs.specs.declared.fault.RunFault.TheVariants.{WriteOut}
 use Rattle.sc_runs.proofs.Calls.{AreTexts}
-use Rattle.sc_runs.proofs.Openings.{Appends-prefix-kept, AppendsPrefix-whole}
 
 -- the answer, after this one, where these faults are left
 abbrev pub checked_with : Checked → List IntakeFault → Checked

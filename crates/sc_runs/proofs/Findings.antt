@@ -6,12 +6,12 @@ use Rattle.sc_papers.specs.declared.rejection.Rejection.{Rejection}
 use Rattle.sc_intake.specs.Log.{log_in}
 use Rattle.sc_intake.specs.declared.fault.IntakeFault.{IntakeFault}
 use Rattle.sc_report.specs.Whole.{AppendsPrefix}
+use Rattle.sc_steps.specs.Inputs.{in_order, Texts, Turn, AreRead}
+use Rattle.sc_steps.specs.Opening.{opening_in, WritesText}
+use Rattle.sc_steps.specs.declared.fault.RunFault.{RunFault}
+use Rattle.sc_steps.specs.declared.fault.RunFault.TheVariants.{Read, WriteOut, OutOfMemory}
 use Rattle.sc_runs.specs.Auditing.{claimed_in}
-use Rattle.sc_runs.specs.Inputs.{in_order, Texts, Turn, AreRead}
-use Rattle.sc_runs.specs.Opening.{opening_in, WritesText}
 use Rattle.sc_runs.specs.Publishing.{finding_text, AuditsReport, EndsFinding, IsFinding, WritesFinding}
-use Rattle.sc_runs.specs.declared.fault.RunFault.{RunFault}
-use Rattle.sc_runs.specs.declared.fault.RunFault.TheVariants.{Read, WriteOut, OutOfMemory}
 use Rattle.sc_runs.specs.declared.publishing.Finding.{Finding}
 use Rattle.sc_runs.specs.declared.publishing.Finding.TheVariants.{BadEntry, Over, ReportDiffers, Certified}
 

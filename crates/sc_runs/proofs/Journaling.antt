@@ -22,7 +22,8 @@ use Rattle.sc_journal.specs.Journal.{after_all, journal_text, AreAccepted, IsRep
 use Rattle.sc_lines.specs.Spelling.{IsInRanges, IsSchool, IsSchoolOrNone}
 use Rattle.sc_journal.specs.declared.journal.Tail.TheVariants.{Whole}
 use Rattle.sc_journal.proofs.Stamping.{accepted-after}
-use Rattle.sc_runs.specs.Run.{accepted, accepted_in, after_record, after_script, unless_verdict}
+use Rattle.sc_steps.specs.Script.{after_record, after_script}
+use Rattle.sc_runs.specs.Run.{accepted, accepted_in, unless_verdict}
 use Rattle.sc_runs.proofs.Allowing.{allowed-papers, allowed-room}
 
 -- a first amendment of this verdict, and those accepted after it

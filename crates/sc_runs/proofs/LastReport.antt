@@ -8,8 +8,8 @@ use Rattle.sc_stamps.specs.Verdict.{StampedPapers, after_stamped_verdict, stampe
 use Rattle.sc_papers.proofs.Amending.{WellFormed-after}
 use Rattle.sc_papers.proofs.Existence.{optimal-exists}
 use Rattle.sc_report.specs.Text.{report_text}
-use Rattle.sc_runs.specs.Opening.{IsReport}
-use Rattle.sc_runs.specs.Run.{after_record, after_script}
+use Rattle.sc_steps.specs.Opening.{IsReport}
+use Rattle.sc_steps.specs.Script.{after_record, after_script}
 use Rattle.sc_runs.proofs.Allowing.{allowed-papers}
 
 -- an amendment of any verdict leaves the papers well-formed

@@ -1,7 +1,5 @@
 pub mod Allowing
 pub mod Cutting
-pub mod Openings
-pub mod Reading
 pub mod Calls
 pub mod ReportOrder
 pub mod Seeds
@@ -10,7 +8,6 @@ pub mod Changes
 pub mod LastLines
 pub mod Checks
 pub mod Replies
-pub mod TwoWriters
 pub mod Verdicts
 pub mod Findings
 pub mod LastReport

@@ -14,12 +14,13 @@ use Rattle.sc_stamps.specs.Verdict.{StampedPapers, after_stamped_verdict, stampe
 use Rattle.sc_intake.specs.declared.fault.IntakeFault.{IntakeFault}
 use Rattle.sc_journal.specs.Journal.{journal_text}
 use Rattle.sc_report.specs.Reply.{refusal_text, reply_text}
-use Rattle.sc_runs.specs.Run.{accepted, after_record, answers, answer_by_verdict, next_line, replies, reply_to, Opened, WritesAll, WritesPrefix, WritesRun}
-use Rattle.sc_runs.specs.TwoWriters.{Piece, journal_of, output_of, to_journal, to_output, IsPrefix}
-use Rattle.sc_runs.specs.declared.fault.RunFault.{RunFault}
-use Rattle.sc_runs.specs.declared.fault.RunFault.TheVariants.{Read, Intake, Journal, WriteOut, WriteJournal, OutOfMemory}
+use Rattle.sc_steps.specs.Script.{after_record, answers, answer_by_verdict, next_line}
+use Rattle.sc_steps.specs.TwoWriters.{Piece, journal_of, output_of, to_journal, to_output, IsPrefix}
+use Rattle.sc_steps.specs.declared.fault.RunFault.{RunFault}
+use Rattle.sc_steps.specs.declared.fault.RunFault.TheVariants.{Read, Intake, Journal, WriteOut, WriteJournal, OutOfMemory}
+use Rattle.sc_steps.proofs.TwoWriters.{journal_of-append, output_of-append, IsPrefix-all}
+use Rattle.sc_runs.specs.Run.{accepted, replies, reply_to, Opened, WritesAll, WritesPrefix, WritesRun}
 use Rattle.sc_runs.proofs.Replies.{journal_of-answers, output_of-answers}
-use Rattle.sc_runs.proofs.TwoWriters.{journal_of-append, output_of-append, IsPrefix-all}
 
 -- of two texts that come to nothing, each is nothing
 none-first : (xs ys : List ℕ) → xs ++ ys ≡ [] → xs ≡ []

@@ -5,9 +5,9 @@ use Rattle.sc_papers.specs.Reordering.{IsReordering}
 use Rattle.sc_papers.specs.WellFormed.{WellFormed}
 use Rattle.sc_papers.proofs.Reordering.{optimal-reordered}
 use Rattle.sc_report.proofs.Orders.{report-moved}
-use Rattle.sc_runs.specs.Opening.{IsReport, WritesText}
-use Rattle.sc_runs.specs.declared.fault.RunFault.{RunFault}
-use Rattle.sc_runs.specs.declared.fault.RunFault.TheVariants.{WriteOut, OutOfMemory}
+use Rattle.sc_steps.specs.Opening.{IsReport, WritesText}
+use Rattle.sc_steps.specs.declared.fault.RunFault.{RunFault}
+use Rattle.sc_steps.specs.declared.fault.RunFault.TheVariants.{WriteOut, OutOfMemory}
 
 -- it is the same
 pub report-reordered : (m n : Market) → WellFormed m → IsReordering m n → (text : List ℕ) → IsReport m text → IsReport n text

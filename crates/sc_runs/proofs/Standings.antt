@@ -1,28 +1,14 @@
 -- Calls that read an input after the opening, if there is one: reading it, and what those that tell of what stands then did.
-use Rattle.std.proofs.Common.{◌≡◌, refl, ap, subst, ◌∙◌, sym, inl, inr, ℕ, Bool, true, false, ◌||◌, List, [], ◌∷◌, ◌++◌, Option, None, Some, Result, Err}
-use Rattle.std.specs.List.{All}
-use Rattle.std.proofs.lemmas.List.Elements.{All-append, All-nil, All-weaker}
+use Rattle.std.proofs.Common.{◌≡◌, refl, ap, subst, ◌∙◌, sym, inl, inr, ℕ, Bool, true, false, ◌||◌, List, [], ◌∷◌, Option, Result, Err}
 use Rattle.sc_papers.specs.Market.{Market}
 use Rattle.sc_intake.specs.declared.fault.IntakeFault.{IntakeFault}
-use Rattle.sc_intake.specs.declared.fault.Source.{Source}
-use Rattle.sc_report.specs.declared.watched.Watched.{Watched}
-use Rattle.sc_runs.specs.Failing.{is_output_fault}
-use Rattle.sc_runs.specs.Inputs.{in_order, turns_if_any, Texts, Turn, AreRead, EndsAmong, EndsReading, IsReadIfAny, IsUntouched, TakesWithin}
-use Rattle.sc_runs.specs.Opening.{papers_in}
+use Rattle.sc_steps.specs.Failing.{is_output_fault}
+use Rattle.sc_steps.specs.Inputs.{in_order, Texts, Turn, AreRead, EndsAmong, EndsReading, IsReadIfAny}
+use Rattle.sc_steps.specs.Opening.{papers_in}
+use Rattle.sc_steps.specs.declared.fault.RunFault.{RunFault}
+use Rattle.sc_steps.specs.declared.fault.RunFault.TheVariants.{Read, Intake, Journal, WriteOut, WriteJournal, OutOfMemory}
 use Rattle.sc_runs.specs.Standing.{TellsFiles}
-use Rattle.sc_runs.specs.declared.fault.RunFault.{RunFault}
-use Rattle.sc_runs.specs.declared.fault.RunFault.TheVariants.{Read, Intake, Journal, WriteOut, WriteJournal, OutOfMemory}
 use Rattle.sc_runs.proofs.Calls.{papers_in-texts, AreTexts}
-use Rattle.sc_runs.proofs.Reading.{All-untouched, TakesWithin-untouched}
-
--- an input that is not come to is untouched
-pub any-untouched : {R : Type 0} (remaining : R → Option (List ℕ)) (source : Source) (last : Option (Watched R)) → All IsUntouched (turns_if_any remaining source last last)
-any-untouched remaining source None = All-nil IsUntouched
-any-untouched remaining source (Some reader) = All-untouched _ (refl, refl)
-
--- of inputs that are not come to nothing is taken
-pub TakesWithin-later : (first later : List Turn) → All TakesWithin first → All IsUntouched later → All TakesWithin (first ++ later)
-TakesWithin-later first later within untouched = All-append TakesWithin first later within (All-weaker IsUntouched TakesWithin TakesWithin-untouched later untouched)
 
 -- reading that ended early is no fault of the output
 ends-no_output : (A : Type 0) (turn : Turn) (fault : RunFault) → EndsReading turn fault → is_output_fault {A = A} (Err fault) ≡ false

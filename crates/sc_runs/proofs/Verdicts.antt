@@ -8,10 +8,10 @@ use Rattle.sc_papers.specs.declared.rejection.Rejection.{Rejection}
 use Rattle.sc_audit.specs.Verdict.{IsVerdict}
 use Rattle.sc_audit.specs.declared.verdict.Verdict.{Verdict}
 use Rattle.sc_intake.specs.declared.fault.IntakeFault.{IntakeFault}
+use Rattle.sc_steps.specs.declared.fault.RunFault.{RunFault}
+use Rattle.sc_steps.specs.declared.fault.RunFault.TheVariants.{WriteOut, OutOfMemory}
 use Rattle.sc_runs.specs.Auditing.{claimed_in, verdict_text, Claimed, WritesAudit, WritesVerdict}
 use Rattle.sc_runs.specs.Steps.{WritesVerdictLine}
-use Rattle.sc_runs.specs.declared.fault.RunFault.{RunFault}
-use Rattle.sc_runs.specs.declared.fault.RunFault.TheVariants.{WriteOut, OutOfMemory}
 
 -- a verdict was told of papers and the log that was read
 pub WritesVerdict-written : (m : Market) (logged : Result (List Rejection) IntakeFault) (seen log : List Rejection) (verdict : Verdict) (old new : Option (List ℕ))

@@ -6,10 +6,10 @@ use Rattle.sc_papers.specs.declared.school_no.TheConstants.SchoolNo.{GREATEST as
 use Rattle.sc_intake.specs.Field.{is_within}
 use Rattle.sc_intake.specs.declared.fault.IntakeFault.{IntakeFault}
 use Rattle.sc_notices.specs.AdmissionsText.{admissions_of, admissions_text}
+use Rattle.sc_steps.specs.declared.fault.RunFault.{RunFault}
 use Rattle.sc_runs.specs.Notices.{Notice, TellsStanding}
 use Rattle.sc_runs.specs.declared.admitting.Listed.{Listed}
 use Rattle.sc_runs.specs.declared.admitting.Listed.TheVariants.{Written, UnknownSchool}
-use Rattle.sc_runs.specs.declared.fault.RunFault.{RunFault}
 use Rattle.sc_runs.specs.declared.notices.Told.{Told}
 use Rattle.sc_runs.specs.declared.notices.Told.TheVariants as told
 

@@ -11,11 +11,11 @@ use Rattle.sc_intake.specs.Fault.{◌>>=◌}
 use Rattle.sc_intake.specs.Log.{log_in}
 use Rattle.sc_intake.specs.declared.fault.IntakeFault.{IntakeFault}
 use Rattle.sc_report.specs.Whole.{AppendsPrefix}
-use Rattle.sc_runs.specs.Inputs.{in_order, Texts, Turn, AreRead}
-use Rattle.sc_runs.specs.Opening.{opening_in, EndsUnread}
+use Rattle.sc_steps.specs.Inputs.{in_order, Texts, Turn, AreRead}
+use Rattle.sc_steps.specs.Opening.{opening_in, EndsUnread}
+use Rattle.sc_steps.specs.declared.fault.RunFault.{RunFault}
+use Rattle.sc_steps.specs.declared.fault.RunFault.TheVariants.{Intake, WriteOut, OutOfMemory}
 use Rattle.sc_runs.specs.declared.auditing.Audited.{Audited}
-use Rattle.sc_runs.specs.declared.fault.RunFault.{RunFault}
-use Rattle.sc_runs.specs.declared.fault.RunFault.TheVariants.{Intake, WriteOut, OutOfMemory}
 
 -- the line that tells a verdict
 abbrev pub verdict_text : Verdict → List ℕ

@@ -5,14 +5,14 @@ use Rattle.sc_lottery.specs.Seed.{seed_of}
 use Rattle.sc_papers.specs.Market.{Market}
 use Rattle.sc_intake.specs.Script.{script_in}
 use Rattle.sc_intake.specs.declared.fault.IntakeFault.{IntakeFault}
+use Rattle.sc_steps.specs.Failing.{is_output_fault}
+use Rattle.sc_steps.specs.Inputs.{Turn, EndsReading, IsRead}
+use Rattle.sc_steps.specs.Opening.{papers_in, WritesMatch}
+use Rattle.sc_steps.specs.declared.fault.RunFault.{RunFault}
 use Rattle.sc_runs.specs.Bundle.{Sections, bundle_of}
-use Rattle.sc_runs.specs.Failing.{is_output_fault}
-use Rattle.sc_runs.specs.Inputs.{Turn, EndsReading, IsRead}
-use Rattle.sc_runs.specs.Opening.{papers_in, WritesMatch}
 use Rattle.sc_runs.specs.Run.{opened_in, WritesRun}
 use Rattle.sc_runs.specs.declared.ending.Ending.{Ending}
 use Rattle.sc_runs.specs.declared.ending.Ending.TheVariants.{Done, BadSeed, BadBundle, Fault}
-use Rattle.sc_runs.specs.declared.fault.RunFault.{RunFault}
 
 -- what running the papers and a script does, with a journal that keeps nothing; without a script it is
 -- matching the papers alone

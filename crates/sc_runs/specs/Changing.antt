@@ -6,12 +6,12 @@ use Rattle.sc_papers.specs.Matching.{Matching, IsStudentOptimal}
 use Rattle.sc_intake.specs.declared.fault.IntakeFault.{IntakeFault}
 use Rattle.sc_journal.specs.declared.journal.Tail.{Tail}
 use Rattle.sc_notices.specs.ChangesText.{changes_text}
-use Rattle.sc_runs.specs.Inputs.{in_order, Texts, Turn, AreRead}
-use Rattle.sc_runs.specs.Opening.{opening_in, EndsUnread}
+use Rattle.sc_steps.specs.Inputs.{in_order, Texts, Turn, AreRead}
+use Rattle.sc_steps.specs.Opening.{opening_in, EndsUnread}
+use Rattle.sc_steps.specs.declared.fault.RunFault.{RunFault}
 use Rattle.sc_runs.specs.Standing.{Stands, WritesOfStanding}
 use Rattle.sc_runs.specs.declared.changing.Changed.{Changed}
 use Rattle.sc_runs.specs.declared.changing.Changed.TheVariants.{Written, NoLine}
-use Rattle.sc_runs.specs.declared.fault.RunFault.{RunFault}
 
 -- how many whole lines a text has: as many as newlines, byte 10
 abbrev pub whole_lines : List ℕ → ℕ

@@ -5,12 +5,12 @@ use Rattle.sc_intake.specs.declared.fault.IntakeFault.{IntakeFault}
 use Rattle.sc_checks.specs.Checks.{every_fault}
 use Rattle.sc_checks.specs.FaultLines.{faults_text, files_of, Files, Names}
 use Rattle.sc_report.specs.Whole.{AppendsPrefix}
-use Rattle.sc_runs.specs.Inputs.{in_order, Texts, Turn, AreRead, IsReadIfAny}
-use Rattle.sc_runs.specs.Opening.{EndsUnread}
+use Rattle.sc_steps.specs.Inputs.{in_order, Texts, Turn, AreRead, IsReadIfAny}
+use Rattle.sc_steps.specs.Opening.{EndsUnread}
+use Rattle.sc_steps.specs.declared.fault.RunFault.{RunFault}
+use Rattle.sc_steps.specs.declared.fault.RunFault.TheVariants.{WriteOut, OutOfMemory}
 use Rattle.sc_runs.specs.declared.checking.Checked.{Checked}
 use Rattle.sc_runs.specs.declared.checking.Checked.TheVariants.{Clean, Faulty}
-use Rattle.sc_runs.specs.declared.fault.RunFault.{RunFault}
-use Rattle.sc_runs.specs.declared.fault.RunFault.TheVariants.{WriteOut, OutOfMemory}
 
 -- whether there is a fault
 abbrev pub checked_of : List IntakeFault → Checked

@@ -4,6 +4,8 @@ use Rattle.sc_audit.specs.declared.verdict.Verdict.{Verdict}
 use Rattle.sc_audit.specs.declared.verdict.Verdict.TheVariants as verdict
 use Rattle.sc_journal.specs.declared.journal.Tail.{Tail}
 use Rattle.sc_journal.specs.declared.journal.Tail.TheVariants as journal
+use Rattle.sc_steps.specs.declared.fault.RunFault.{RunFault}
+use Rattle.sc_steps.specs.declared.fault.RunFault.TheVariants.{Read, Intake, Journal, WriteOut, WriteJournal, OutOfMemory}
 use Rattle.sc_runs.specs.declared.admitting.Listed.{Listed}
 use Rattle.sc_runs.specs.declared.admitting.Listed.TheVariants as listed
 use Rattle.sc_runs.specs.declared.changing.Changed.{Changed}
@@ -14,8 +16,6 @@ use Rattle.sc_runs.specs.declared.ending.Ending.{Ending}
 use Rattle.sc_runs.specs.declared.ending.Ending.TheVariants.{Done, NotCertified, Faulty, Torn, BadSeed, BadBundle, BadStudent, BadTable, TableBesideLog, UnknownStudent, BadSchool, UnknownSchool, BadSince, NoLine, AlreadyThere, Unwritten, Fault}
 use Rattle.sc_runs.specs.declared.explaining.Explained.{Explained}
 use Rattle.sc_runs.specs.declared.explaining.Explained.TheVariants as explained
-use Rattle.sc_runs.specs.declared.fault.RunFault.{RunFault}
-use Rattle.sc_runs.specs.declared.fault.RunFault.TheVariants.{Read, Intake, Journal, WriteOut, WriteJournal, OutOfMemory}
 use Rattle.sc_runs.specs.declared.publishing.Finding.{Finding}
 use Rattle.sc_runs.specs.declared.publishing.Finding.TheVariants as finding
 

@@ -6,10 +6,10 @@ use Rattle.sc_papers.specs.Market.{Market, is_student}
 use Rattle.sc_intake.specs.Field.{is_within}
 use Rattle.sc_intake.specs.declared.fault.IntakeFault.{IntakeFault}
 use Rattle.sc_notices.specs.ExplanationText.{explanation_of, explanation_text}
+use Rattle.sc_steps.specs.declared.fault.RunFault.{RunFault}
 use Rattle.sc_runs.specs.Notices.{Notice, TellsStanding}
 use Rattle.sc_runs.specs.declared.explaining.Explained.{Explained}
 use Rattle.sc_runs.specs.declared.explaining.Explained.TheVariants.{Written, UnknownStudent}
-use Rattle.sc_runs.specs.declared.fault.RunFault.{RunFault}
 use Rattle.sc_runs.specs.declared.notices.Told.{Told}
 use Rattle.sc_runs.specs.declared.notices.Told.TheVariants as told
 

@@ -5,11 +5,11 @@ use Rattle.sc_intake.specs.Papers.{papers_in}
 use Rattle.sc_intake.specs.declared.fault.IntakeFault.{IntakeFault}
 use Rattle.sc_export.specs.Files.{lists_text, roster_text, schools_text}
 use Rattle.sc_export.specs.declared.files.PapersFiles.{PapersFiles}
-use Rattle.sc_runs.specs.Inputs.{in_order, Texts, Turn, AreRead, EndsAmong, IsReadIfAny}
-use Rattle.sc_runs.specs.Opening.{opening_in}
+use Rattle.sc_steps.specs.Inputs.{in_order, Texts, Turn, AreRead, EndsAmong, IsReadIfAny}
+use Rattle.sc_steps.specs.Opening.{opening_in}
+use Rattle.sc_steps.specs.declared.fault.RunFault.{RunFault}
 use Rattle.sc_runs.specs.Standing.{IsStandingFault, Stands}
 use Rattle.sc_runs.specs.declared.exporting.Exported.{Exported}
-use Rattle.sc_runs.specs.declared.fault.RunFault.{RunFault}
 
 -- texts are those of the files of papers, and the papers are read back from them
 pub record AreFilesOf (m : Market) (files : PapersFiles) : Type 0 where

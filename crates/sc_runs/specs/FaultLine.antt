@@ -2,23 +2,11 @@
 use Rattle.std.specs.Prelude.{List, ℕ, [], ◌++◌, codes}
 use Rattle.std.specs.Fmt.{decimal}
 use Rattle.sc_lottery.specs.Seed.{refusal_text}
-use Rattle.sc_intake.specs.FaultText.{fault_text, source_text}
-use Rattle.sc_journal.specs.FaultText as journal
+use Rattle.sc_steps.specs.Faults.{fault_words}
 use Rattle.sc_runs.specs.declared.ending.Ending.{Ending}
 use Rattle.sc_runs.specs.declared.ending.Ending.TheVariants.{Done, NotCertified, Faulty, Torn, BadSeed, BadBundle, BadStudent, BadTable, TableBesideLog, UnknownStudent, BadSchool, UnknownSchool, BadSince, NoLine, AlreadyThere, Unwritten, Fault}
 use Rattle.sc_runs.specs.declared.ending.PapersFile.{PapersFile}
 use Rattle.sc_runs.specs.declared.ending.PapersFile.TheVariants.{Schools, Roster, Lists}
-use Rattle.sc_runs.specs.declared.fault.RunFault.{RunFault}
-use Rattle.sc_runs.specs.declared.fault.RunFault.TheVariants.{Read, Intake, Journal, WriteOut, WriteJournal, OutOfMemory}
-
--- why a call ended early, in words
-abbrev pub fault_words : RunFault → List ℕ
-fault_words (Read source) = codes "cannot read " ++ source_text source
-fault_words (Intake fault) = fault_text fault
-fault_words (Journal fault) = journal.fault_text fault
-fault_words WriteOut = codes "cannot write output"
-fault_words WriteJournal = codes "cannot write journal"
-fault_words OutOfMemory = codes "out of memory"
 
 -- the name of a file that papers are exported to
 abbrev pub file_name : PapersFile → List ℕ

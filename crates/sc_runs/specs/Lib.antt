@@ -1,11 +1,7 @@
 pub mod Markers
 pub mod Bundle
 pub mod Ending
-pub mod Inputs
-pub mod Failing
-pub mod Opening
 pub mod BundleRun
-pub mod TwoWriters
 pub mod Run
 pub mod Auditing
 pub mod Publishing

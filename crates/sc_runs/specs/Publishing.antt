@@ -12,11 +12,11 @@ use Rattle.sc_intake.specs.declared.fault.Source.TheVariants as input
 use Rattle.sc_report.specs.Comparing.{ComparesWith}
 use Rattle.sc_report.specs.Text.{report_text}
 use Rattle.sc_report.specs.Whole.{AppendsPrefix, GivesAtMost}
+use Rattle.sc_steps.specs.Inputs.{in_order, Texts, Turn, AreRead, IsUntouched}
+use Rattle.sc_steps.specs.Opening.{EndsUnread}
+use Rattle.sc_steps.specs.declared.fault.RunFault.{RunFault}
+use Rattle.sc_steps.specs.declared.fault.RunFault.TheVariants.{Read, Intake, Journal, WriteOut, WriteJournal, OutOfMemory}
 use Rattle.sc_runs.specs.Auditing.{audit_in, Claimed}
-use Rattle.sc_runs.specs.Inputs.{in_order, Texts, Turn, AreRead, IsUntouched}
-use Rattle.sc_runs.specs.Opening.{EndsUnread}
-use Rattle.sc_runs.specs.declared.fault.RunFault.{RunFault}
-use Rattle.sc_runs.specs.declared.fault.RunFault.TheVariants.{Read, Intake, Journal, WriteOut, WriteJournal, OutOfMemory}
 use Rattle.sc_runs.specs.declared.publishing.Finding.{Finding}
 use Rattle.sc_runs.specs.declared.publishing.Finding.TheVariants.{BadEntry, Over, ReportDiffers, Certified}
 

@@ -6,16 +6,13 @@ use Rattle.sc_papers.specs.Reordering.{IsReordering}
 use Rattle.sc_stamps.specs.Verdict.{StampedPapers, unamended}
 use Rattle.sc_intake.specs.declared.fault.IntakeFault.{IntakeFault}
 use Rattle.sc_journal.specs.Journal.{IsFirstFault, IsReplay}
-use Rattle.sc_journal.specs.declared.fault.JournalFault.{JournalFault}
-use Rattle.sc_journal.specs.declared.fault.JournalCause.{JournalCause}
-use Rattle.sc_journal.specs.declared.fault.JournalCause.TheVariants as cause
 use Rattle.sc_journal.specs.declared.journal.Tail.{Tail}
 use Rattle.sc_report.specs.Whole.{AppendsPrefix}
-use Rattle.sc_runs.specs.Inputs.{in_order, Texts, Turn, AreRead}
-use Rattle.sc_runs.specs.Opening.{opening_in, EndsUnread, IsReport}
+use Rattle.sc_steps.specs.Inputs.{in_order, Texts, Turn, AreRead}
+use Rattle.sc_steps.specs.Opening.{opening_in, EndsUnread, IsReport}
+use Rattle.sc_steps.specs.declared.fault.RunFault.{RunFault}
+use Rattle.sc_steps.specs.declared.fault.RunFault.TheVariants.{Read, Intake, Journal, WriteOut, WriteJournal, OutOfMemory}
 use Rattle.sc_runs.specs.declared.replaying.Replayed.{Replayed}
-use Rattle.sc_runs.specs.declared.fault.RunFault.{RunFault}
-use Rattle.sc_runs.specs.declared.fault.RunFault.TheVariants.{Read, Intake, Journal, WriteOut, WriteJournal, OutOfMemory}
 
 -- a text is the report after a journal was replayed over papers, which ended so
 abbrev pub IsReplayReport : Market → List ℕ → Tail → List ℕ → Type 0
@@ -40,14 +37,3 @@ WritesReplay reading journal old new (Err WriteJournal) = ⊥
 abbrev pub ReplaysFiles : List ℕ → List Turn → Option (List ℕ) → Option (List ℕ) → Result Replayed RunFault → Type 0
 ReplaysFiles seed turns old new result = EndsUnread turns old new result
     ⊎ ((texts : Texts) × (journal : List ℕ) × AreRead turns (in_order texts ++ journal ∷ []) × WritesReplay (opening_in seed texts) journal old new result)
-
-abbrev journal_fault_by : JournalCause → JournalFault → RunFault
-journal_fault_by cause.Shape fault = Journal fault
-journal_fault_by cause.Number fault = Journal fault
-journal_fault_by cause.JournalFull fault = Journal fault
-journal_fault_by (cause.Refused refusal) fault = Journal fault
-journal_fault_by cause.OutOfMemory fault = OutOfMemory
-
--- a fault of a journal as a fault of the run: want of memory is told as such, whatever the layer
-abbrev pub journal_fault : JournalFault → RunFault
-journal_fault fault = journal_fault_by fault.cause fault

@@ -15,11 +15,11 @@ use Rattle.sc_report.specs.Whole.{AppendsPrefix}
 use Rattle.sc_report.specs.declared.table.Table.{Table}
 use Rattle.sc_report.specs.declared.watched.Watched.{Watched}
 use Rattle.sc_notices.specs.SummaryText.{summary_text}
-use Rattle.sc_runs.specs.Inputs.{in_order, opening_turns, turns_if_any, Texts, Turn, AreRead, IsReadIfAny, TakesWithin}
-use Rattle.sc_runs.specs.Opening.{opening_in, EndsUnread}
-use Rattle.sc_runs.specs.declared.fault.RunFault.{RunFault}
-use Rattle.sc_runs.specs.declared.fault.RunFault.TheVariants.{Read, Intake, Journal, WriteOut, WriteJournal, OutOfMemory}
-use Rattle.sc_runs.specs.declared.inputs.Opening.{Opening}
+use Rattle.sc_steps.specs.Inputs.{in_order, opening_turns, turns_if_any, Texts, Turn, AreRead, IsReadIfAny, TakesWithin}
+use Rattle.sc_steps.specs.Opening.{opening_in, EndsUnread}
+use Rattle.sc_steps.specs.declared.fault.RunFault.{RunFault}
+use Rattle.sc_steps.specs.declared.fault.RunFault.TheVariants.{Read, Intake, Journal, WriteOut, WriteJournal, OutOfMemory}
+use Rattle.sc_steps.specs.declared.inputs.Opening.{Opening}
 
 -- the turn of a journal's reader, if there is a journal
 abbrev pub journal_turns : {R : Type 0} → (R → Option (List ℕ)) → Option (Watched R) → Option (Watched R) → List Turn

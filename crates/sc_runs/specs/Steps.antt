@@ -1,9 +1,8 @@
 -- What the steps of the calls do, between reading the inputs and the answer. Public contracts do not cite it.
-use Rattle.std.specs.Prelude.{Bool, ◌++◌, ◌+◌, ◌∷◌, ◌≡◌, [], ⊤, Err, List, None, Ok, Option, Result, Some, ℕ}
+use Rattle.std.specs.Prelude.{◌++◌, ◌+◌, ◌∷◌, ◌≡◌, [], Err, List, None, Ok, Option, Result, Some, ℕ}
 use Rattle.std.specs.List.{All}
 use Rattle.std.specs.Io.KnownBytes.{Appends, Keeps}
 use Rattle.sc_audit.specs.declared.verdict.Verdict.{Verdict}
-use Rattle.sc_intake.specs.Papers.{papers_in}
 use Rattle.sc_intake.specs.declared.fault.IntakeFault.{IntakeFault}
 use Rattle.sc_journal.specs.declared.journal.Tail.{Tail}
 use Rattle.sc_notices.specs.ChangesText.{changes_text}
@@ -17,23 +16,20 @@ use Rattle.sc_reasons.specs.Entrants.{AreRising, Holds}
 use Rattle.sc_report.specs.Table.{table_text}
 use Rattle.sc_report.specs.Whole.{AppendsPrefix}
 use Rattle.sc_reasons.specs.declared.entrants.Entrant.{Entrant}
-use Rattle.sc_report.specs.Watched.{device_of}
-use Rattle.sc_report.specs.declared.watched.Watched.{Watched}
 use Rattle.sc_stamps.specs.Verdict.{StampedPapers}
+use Rattle.sc_steps.specs.Inputs.{Texts}
+use Rattle.sc_steps.specs.Opening.{IsReport, WritesText}
+use Rattle.sc_steps.specs.Script.{after_script, answers, Writes}
+use Rattle.sc_steps.specs.Steps.{IsOpeningFault}
+use Rattle.sc_steps.specs.TwoWriters.{to_output, Contents}
+use Rattle.sc_steps.specs.declared.fault.RunFault.TheVariants.{OutOfMemory, WriteOut}
+use Rattle.sc_steps.specs.declared.fault.RunFault.{RunFault}
+use Rattle.sc_steps.specs.declared.inputs.OpeningSlices.{OpeningSlices}
 use Rattle.sc_runs.specs.Auditing.{verdict_text}
-use Rattle.sc_runs.specs.Failing.{JournalFailsAsTold, OutputFailsAsTold}
-use Rattle.sc_runs.specs.Inputs.{Texts}
 use Rattle.sc_runs.specs.Markers.{Parts}
-use Rattle.sc_runs.specs.Opening.{IsReport, WritesText}
-use Rattle.sc_runs.specs.Run.{after_script, answers, Writes}
 use Rattle.sc_runs.specs.Standing.{Stands}
-use Rattle.sc_runs.specs.TwoWriters.{to_output, Contents}
 use Rattle.sc_runs.specs.declared.ending.Ending.TheVariants.{Done, Fault}
 use Rattle.sc_runs.specs.declared.ending.Ending.{Ending}
-use Rattle.sc_runs.specs.declared.fault.RunFault.TheVariants.{Intake, OutOfMemory, WriteOut}
-use Rattle.sc_runs.specs.declared.fault.RunFault.{RunFault}
-use Rattle.sc_runs.specs.declared.inputs.OpeningSlices.{OpeningSlices}
-use Rattle.sc_runs.specs.declared.inputs.OpeningTexts.{OpeningTexts}
 use Rattle.sc_runs.specs.declared.markers.Cut.{Cut}
 use Rattle.sc_runs.specs.declared.publishing.Finding.TheVariants.{Certified, ReportDiffers}
 use Rattle.sc_runs.specs.declared.publishing.Finding.{Finding}
@@ -41,50 +37,14 @@ use Rattle.sc_runs.specs.declared.replaying.Replayed.{Replayed}
 use Rattle.sc_runs.specs.declared.telling.StandingText.TheVariants.{OneTable, Summary}
 use Rattle.sc_runs.specs.declared.telling.StandingText.{StandingText}
 
--- a call did this to the bytes of the output, where they are known, and the output has failed since if the call tells so
-pub record OutputGets {A W : Type 0} (Does : Option (List ℕ) → Option (List ℕ) → Result A RunFault → Type 0) (contents : W → Option (List ℕ))
-    (old new : Watched W) (result : Result A RunFault) : Type 0 where
-  pub bytes : Does (contents (device_of old)) (contents (device_of new)) result
-  pub failed : OutputFailsAsTold old new result
-
--- a call did this to the bytes of the journal and the output, where they are known, and each has failed since if the call
--- tells so
-pub record WritersGet {A J W : Type 0} (Does : Contents → Contents → Result A RunFault → Type 0)
-    (journal : J → Option (List ℕ)) (journal_fails : J → Bool) (before after : J) (output : W → Option (List ℕ)) (old new : Watched W)
-    (result : Result A RunFault) : Type 0 where
-  pub bytes : Does (record { journal = journal before; output = output (device_of old) })
-      (record { journal = journal after; output = output (device_of new) }) result
-  pub failed : OutputFailsAsTold old new result
-  pub journal_failed : JournalFailsAsTold (journal_fails before) (journal_fails after) result
-
--- the texts that were read
-abbrev pub texts_of : OpeningTexts → Texts
-texts_of given = record { schools = given.schools.items; roster = given.roster.items; lists = given.lists.items }
-
 -- the texts that are lent
 abbrev pub texts_lent : OpeningSlices → Texts
 texts_lent lent = record { schools = lent.schools.now; roster = lent.roster.now; lists = lent.lists.now }
-
--- the papers that the lent texts of an opening hold, or their first fault
-abbrev pub papers_held : List ℕ → OpeningSlices → Result Market IntakeFault
-papers_held seed texts = papers_in seed texts.schools.now texts.roster.now texts.lists.now
-
--- reading ended early for the first fault of what was read, or for want of memory
-abbrev pub IsOpeningFault : {A : Type 0} → Result A IntakeFault → RunFault → Type 0
-IsOpeningFault reading (Intake fault) = reading ≡ Err fault
-IsOpeningFault reading OutOfMemory = ⊤
-IsOpeningFault reading _ = ⊥
 
 -- this came of reading the papers that the texts hold: those papers, or their first fault
 abbrev pub IsReadingOf : Result Market IntakeFault → Result Market RunFault → Type 0
 IsReadingOf reading (Ok m) = reading ≡ Ok m
 IsReadingOf reading (Err fault) = IsOpeningFault reading fault
-
--- a writer was given this text whole at `Ok`, and a prefix of it where it failed
-abbrev pub WritesExactly : List ℕ → Option (List ℕ) → Option (List ℕ) → Result (Unit {0}) RunFault → Type 0
-WritesExactly text old new (Ok done) = Appends old new text
-WritesExactly text old new (Err WriteOut) = AppendsPrefix old new text
-WritesExactly text old new (Err _) = ⊥
 
 -- what is told of the papers under a matching
 abbrev pub standing_text : StandingText → Market → Matching → List ℕ

@@ -2,13 +2,11 @@
 
 ghost use Rattle.std.specs.Prelude.{◌≡◌, is_some};
 ghost use Rattle.sc_report.specs.Watched.{device_of};
+ghost use Rattle.sc_steps.specs.Failing.{OutputFailsAsTold};
+ghost use Rattle.sc_steps.specs.Inputs.{opening_turns};
 ghost use Rattle.sc_runs.specs.Admitting.{admissions, school_in, ListsStanding};
-ghost use Rattle.sc_runs.specs.Failing.{OutputFailsAsTold};
-ghost use Rattle.sc_runs.specs.Inputs.{opening_turns};
 ghost use Rattle.sc_runs.specs.Standing.{journal_turns, AllTakeWithin, TellsFiles};
 
-use crate::fault::RunFault;
-use crate::inputs::Opening;
 use crate::notices::{Subject, Told, notice_files};
 use sc_decimal::read_number;
 use sc_journal::Tail;
@@ -16,6 +14,7 @@ use sc_notices::{admissions_of, admissions_text};
 use sc_papers::{SchoolNo, Seed};
 use sc_repair::Clearing;
 use sc_report::Watched;
+use sc_steps::{Opening, RunFault};
 use std::alloc::{AllocError, Global};
 use std::io::{Read, Write};
 

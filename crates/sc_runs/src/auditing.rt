@@ -4,21 +4,19 @@ ghost use Rattle.std.specs.Prelude.{◌≡◌, All, IfOk, MatchResult, Ok};
 ghost use Rattle.sc_intake.specs.Log.{log_in};
 ghost use Rattle.sc_intake.specs.declared.fault.Source.TheVariants as input;
 ghost use Rattle.sc_report.specs.Watched.{device_of};
+ghost use Rattle.sc_steps.specs.Failing.{OutputFailsAsTold};
+ghost use Rattle.sc_steps.specs.Inputs.{turns_with, TakesWithin};
+ghost use Rattle.sc_steps.specs.Opening.{opening_in};
+ghost use Rattle.sc_steps.specs.Steps.{texts_of, IsOpeningFault, OutputGets};
 ghost use Rattle.sc_runs.specs.Auditing.{claimed_in, verdict_text, AuditsFiles, WritesAudit, WritesVerdict};
-ghost use Rattle.sc_runs.specs.Failing.{OutputFailsAsTold};
-ghost use Rattle.sc_runs.specs.Inputs.{turns_with, TakesWithin};
-ghost use Rattle.sc_runs.specs.Opening.{opening_in};
-ghost use Rattle.sc_runs.specs.Steps.{texts_of, IsOpeningFault, OutputGets, WritesVerdictLine};
+ghost use Rattle.sc_runs.specs.Steps.{WritesVerdictLine};
 
-use crate::fault::RunFault;
-use crate::inputs::{Opening, OpeningTexts, read_inputs};
-use crate::opening::read_owned;
-use crate::writing::write_text;
 use sc_audit::{Verdict, audit};
 use sc_decimal::push_number;
 use sc_intake::{Source, read_log};
 use sc_papers::{FlatPapers, Rejection, Seed};
 use sc_report::Watched;
+use sc_steps::{Opening, OpeningTexts, RunFault, read_inputs, read_owned, write_text};
 use std::alloc::{AllocError, Global};
 use std::io::{Read, Write};
 

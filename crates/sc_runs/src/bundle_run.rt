@@ -5,27 +5,25 @@ ghost use Rattle.sc_intake.specs.declared.fault.IntakeFault.{IntakeFault};
 ghost use Rattle.sc_intake.specs.declared.fault.Source.TheVariants as source;
 ghost use Rattle.sc_papers.specs.Market.{Market};
 ghost use Rattle.sc_report.specs.Watched.{device_of, has_failed};
+ghost use Rattle.sc_steps.specs.Failing.{is_journal_fault};
+ghost use Rattle.sc_steps.specs.Inputs.{turn_of, TakesWithin};
+ghost use Rattle.sc_steps.specs.Opening.{WritesMatch};
+ghost use Rattle.sc_steps.specs.Steps.{OutputGets};
+ghost use Rattle.sc_steps.specs.declared.fault.RunFault.TheVariants.{WriteJournal};
 ghost use Rattle.sc_runs.specs.Bundle.{sections_of};
 ghost use Rattle.sc_runs.specs.BundleRun.{ends_by_output, EndsBundle, RunsBundle};
-ghost use Rattle.sc_runs.specs.Failing.{is_journal_fault};
-ghost use Rattle.sc_runs.specs.Inputs.{turn_of, TakesWithin};
-ghost use Rattle.sc_runs.specs.Opening.{WritesMatch};
-ghost use Rattle.sc_runs.specs.Steps.{ending_of, IsReadingOf, OutputGets};
+ghost use Rattle.sc_runs.specs.Steps.{ending_of, IsReadingOf};
 ghost use Rattle.sc_runs.specs.declared.ending.Ending.TheVariants.{Fault};
-ghost use Rattle.sc_runs.specs.declared.fault.RunFault.TheVariants.{WriteJournal};
 
-use crate::amendable::Settling;
 use crate::bundle::{Bundle, split_bundle};
 use crate::ending::Ending;
-use crate::fault::RunFault;
-use crate::inputs::{OpeningSlices, read_input};
-use crate::opening::{read_flat, read_papers};
-use crate::recorder::Unkept;
-use crate::running::run_read;
-use crate::settled::report_papers;
+use crate::running::{Settling, run_read};
 use sc_intake::Source;
 use sc_papers::{FlatPapers, Seed};
 use sc_report::Watched;
+use sc_steps::{
+    OpeningSlices, RunFault, Unkept, read_flat, read_input, read_papers, report_papers,
+};
 use std::alloc::Global;
 use std::io::{Read, Write};
 

@@ -5,18 +5,17 @@ ghost use Rattle.sc_intake.specs.declared.fault.Source.TheVariants as input;
 ghost use Rattle.sc_checks.specs.FaultLines.{files_of};
 ghost use Rattle.sc_checks.specs.Representation.{files_view, names_view};
 ghost use Rattle.sc_report.specs.Watched.{device_of};
+ghost use Rattle.sc_steps.specs.Failing.{OutputFailsAsTold};
+ghost use Rattle.sc_steps.specs.Inputs.{opening_turns, turns_if_any, TakesWithin};
+ghost use Rattle.sc_steps.specs.Steps.{OutputGets};
 ghost use Rattle.sc_runs.specs.Checking.{ChecksFiles, WritesEveryFault, WritesFaults};
-ghost use Rattle.sc_runs.specs.Failing.{OutputFailsAsTold};
-ghost use Rattle.sc_runs.specs.Inputs.{opening_turns, turns_if_any, TakesWithin};
-ghost use Rattle.sc_runs.specs.Steps.{texts_lent, OutputGets};
+ghost use Rattle.sc_runs.specs.Steps.{texts_lent};
 
-use crate::fault::RunFault;
-use crate::inputs::{Opening, OpeningSlices, read_opening_and};
-use crate::writing::{flush_output, write_line};
 use sc_checks::{FaultLines, FileNames, InputFile, InputFiles, every_fault};
 use sc_intake::Source;
 use sc_papers::Seed;
 use sc_report::Watched;
+use sc_steps::{Opening, OpeningSlices, RunFault, flush_output, read_opening_and, write_line};
 use std::alloc::Global;
 use std::io::{Read, Write};
 

@@ -8,12 +8,12 @@ use crate::admitting::Listed;
 use crate::changing::Changed;
 use crate::checking::Checked;
 use crate::explaining::Explained;
-use crate::fault::RunFault;
 use crate::publishing::Finding;
 use sc_audit::Verdict;
 use sc_journal::Tail;
 use sc_lottery::SeedError;
 use sc_papers::{SchoolNo, StudentNo};
+use sc_steps::RunFault;
 use std::alloc::{AllocError, Global};
 use std::fmt;
 

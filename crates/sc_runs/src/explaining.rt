@@ -2,13 +2,11 @@
 
 ghost use Rattle.std.specs.Prelude.{◌≡◌, is_some};
 ghost use Rattle.sc_report.specs.Watched.{device_of};
+ghost use Rattle.sc_steps.specs.Failing.{OutputFailsAsTold};
+ghost use Rattle.sc_steps.specs.Inputs.{opening_turns};
 ghost use Rattle.sc_runs.specs.Explaining.{explanations, student_in, ExplainsStanding};
-ghost use Rattle.sc_runs.specs.Failing.{OutputFailsAsTold};
-ghost use Rattle.sc_runs.specs.Inputs.{opening_turns};
 ghost use Rattle.sc_runs.specs.Standing.{journal_turns, AllTakeWithin, TellsFiles};
 
-use crate::fault::RunFault;
-use crate::inputs::Opening;
 use crate::notices::{Subject, Told, notice_files};
 use sc_decimal::read_number;
 use sc_journal::Tail;
@@ -16,6 +14,7 @@ use sc_notices::{explanation_of, explanation_text};
 use sc_papers::{Seed, StudentNo};
 use sc_repair::Clearing;
 use sc_report::Watched;
+use sc_steps::{Opening, RunFault};
 use std::alloc::{AllocError, Global};
 use std::io::{Read, Write};
 

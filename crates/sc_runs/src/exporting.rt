@@ -1,21 +1,19 @@
 //! From files to the files of the papers as they stand.
 
 ghost use Rattle.std.specs.Prelude.{◌≡◌, IfErr, IfOk, Ok, is_some};
+ghost use Rattle.sc_steps.specs.Inputs.{opening_turns};
+ghost use Rattle.sc_steps.specs.Opening.{opening_in};
+ghost use Rattle.sc_steps.specs.Steps.{texts_of};
+ghost use Rattle.sc_steps.specs.declared.fault.RunFault.TheVariants.{OutOfMemory};
 ghost use Rattle.sc_runs.specs.Exporting.{AreFilesOf, ExportsFiles, ExportsStanding};
-ghost use Rattle.sc_runs.specs.Inputs.{opening_turns};
-ghost use Rattle.sc_runs.specs.Opening.{opening_in};
 ghost use Rattle.sc_runs.specs.Standing.{journal_turns, AllTakeWithin};
-ghost use Rattle.sc_runs.specs.Steps.{texts_of};
-ghost use Rattle.sc_runs.specs.declared.fault.RunFault.TheVariants.{OutOfMemory};
 
-use crate::fault::RunFault;
-use crate::inputs::{Opening, OpeningTexts, read_opening_and};
-use crate::opening::read_kept;
 use sc_export::{PapersFiles, export};
 use sc_intake::Source;
 use sc_journal::{Tail, replay_papers};
 use sc_papers::{Papers, Seed};
 use sc_report::Watched;
+use sc_steps::{Opening, OpeningTexts, RunFault, read_kept, read_opening_and};
 use std::alloc::Global;
 use std::io::Read;
 

@@ -14,11 +14,12 @@ ghost use Rattle.sc_journal.specs.Journal.{journal_text, IsReplay};
 ghost use Rattle.sc_journal.specs.declared.journal.Tail.{Tail};
 ghost use Rattle.sc_journal.specs.declared.journal.Tail.TheVariants.{Whole};
 ghost use Rattle.sc_report.specs.Text.{report_text};
+ghost use Rattle.sc_steps.specs.Script.{after_script};
+ghost use Rattle.sc_steps.specs.declared.fault.RunFault.{RunFault};
 ghost use Rattle.sc_runs.specs.Changing.{whole_lines, IsChange};
 ghost use Rattle.sc_runs.specs.Desks.{papers_after, AreSameUpToOrder};
-ghost use Rattle.sc_runs.specs.Run.{accepted, after_script, replies, Opened, WritesRun};
+ghost use Rattle.sc_runs.specs.Run.{accepted, replies, Opened, WritesRun};
 ghost use Rattle.sc_runs.specs.Standing.{Stands};
-ghost use Rattle.sc_runs.specs.declared.fault.RunFault.{RunFault};
 
 use sc_intake::MOST_BYTES;
 use sc_journal::LineNo;

@@ -4,20 +4,18 @@ ghost use Rattle.std.specs.Prelude.{◌≡◌, true, Option, None, Some, IfOk, I
 ghost use Rattle.sc_papers.specs.Market.{Market};
 ghost use Rattle.sc_papers.specs.Matching.{Matching};
 ghost use Rattle.sc_repair.specs.Standing.{matching_of};
-ghost use Rattle.sc_runs.specs.Inputs.{opening_turns};
+ghost use Rattle.sc_steps.specs.Inputs.{opening_turns};
+ghost use Rattle.sc_steps.specs.Steps.{papers_held, OutputGets};
 ghost use Rattle.sc_runs.specs.Notices.{is_known, notice_text, Notice, TellsStanding, WritesNotice};
 ghost use Rattle.sc_runs.specs.Standing.{journal_turns, AllTakeWithin, TellsFiles};
-ghost use Rattle.sc_runs.specs.Steps.{papers_held, OutputGets};
 
-use crate::fault::RunFault;
-use crate::inputs::{Opening, OpeningSlices, read_opening_and};
 use crate::standing::clearing_after;
-use crate::writing::write_text;
 use sc_intake::Source;
 use sc_journal::Tail;
 use sc_papers::Seed;
 use sc_repair::Clearing;
 use sc_report::Watched;
+use sc_steps::{Opening, OpeningSlices, RunFault, read_opening_and, write_text};
 use std::alloc::{AllocError, Global};
 use std::io::{Read, Write};
 

@@ -3,21 +3,19 @@
 ghost use Rattle.std.specs.Prelude.{All, Ok};
 ghost use Rattle.sc_intake.specs.declared.fault.Source.TheVariants as input;
 ghost use Rattle.sc_report.specs.Watched.{device_of};
-ghost use Rattle.sc_runs.specs.Failing.{OutputFailsAsTold};
-ghost use Rattle.sc_runs.specs.Inputs.{turns_with, TakesWithin};
-ghost use Rattle.sc_runs.specs.Opening.{opening_in};
+ghost use Rattle.sc_steps.specs.Failing.{OutputFailsAsTold};
+ghost use Rattle.sc_steps.specs.Inputs.{turns_with, TakesWithin};
+ghost use Rattle.sc_steps.specs.Opening.{opening_in};
+ghost use Rattle.sc_steps.specs.Steps.{texts_of, OutputGets};
 ghost use Rattle.sc_runs.specs.Replaying.{ReplaysFiles, WritesReplay};
-ghost use Rattle.sc_runs.specs.Steps.{texts_of, OutputGets, WritesReplayed};
+ghost use Rattle.sc_runs.specs.Steps.{WritesReplayed};
 
-use crate::fault::RunFault;
-use crate::inputs::{Opening, OpeningTexts, read_inputs};
-use crate::opening::read_kept;
-use crate::settled::report_papers;
 use sc_intake::Source;
 use sc_journal::{Tail, replay_papers};
 use sc_papers::{MOST_STUDENTS, Papers, Seed};
 use sc_repair::Unsettled;
 use sc_report::Watched;
+use sc_steps::{Opening, OpeningTexts, RunFault, read_inputs, read_kept, report_papers};
 use std::alloc::Global;
 use std::io::{Read, Write};
 

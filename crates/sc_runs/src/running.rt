@@ -10,25 +10,40 @@ ghost use Rattle.sc_intake.specs.declared.fault.Source.TheVariants as input;
 ghost use Rattle.sc_repair.specs.Standing.{matching_of};
 ghost use Rattle.sc_report.specs.Text.{report_text};
 ghost use Rattle.sc_report.specs.Watched.{device_of, has_failed};
-ghost use Rattle.sc_runs.specs.Failing.{JournalFailsAsTold, OutputFailsAsTold};
-ghost use Rattle.sc_runs.specs.Inputs.{turns_with, TakesWithin};
-ghost use Rattle.sc_runs.specs.Steps.{IsOpeningFault, IsReadingOf, WritersGet, WritesLastReport, WritesSession};
-ghost use Rattle.sc_runs.specs.TwoWriters.{to_output};
-ghost use Rattle.sc_runs.specs.Run.{opened_in, RunsFiles, Writes, WritesRun};
+ghost use Rattle.sc_steps.specs.Failing.{JournalFailsAsTold, OutputFailsAsTold};
+ghost use Rattle.sc_steps.specs.Inputs.{turns_with, TakesWithin};
+ghost use Rattle.sc_steps.specs.Steps.{IsOpeningFault, WritersGet};
+ghost use Rattle.sc_steps.specs.TwoWriters.{to_output};
+ghost use Rattle.sc_steps.specs.Script.{Writes};
+ghost use Rattle.sc_runs.specs.Steps.{IsReadingOf, WritesLastReport, WritesSession};
+ghost use Rattle.sc_runs.specs.Run.{opened_in, RunsFiles, WritesRun};
 
-use crate::amendable::{Amendable, Settling};
-use crate::fault::RunFault;
-use crate::inputs::{InputTexts, Inputs, read_inputs};
-use crate::opening::read_kept;
-use crate::recorder::Recorder;
-use crate::script::Session;
-use crate::writing::{flush_output, write_standing_report};
 use sc_intake::{ScriptRecords, Source};
 use sc_papers::{Papers, Seed};
 use sc_repair::{Clearing, Unsettled};
 use sc_report::Watched;
+use sc_steps::{
+    Amendable, InputTexts, Opening, Recorder, RunFault, Session, flush_output, read_inputs,
+    read_kept, write_standing_report,
+};
 use std::alloc::Global;
 use std::io::{Read, Write};
+
+/// The inputs of a run: the files of an opening, and the script.
+#[derive(Drop)]
+pub struct Inputs<R> {
+    pub opening: Opening<R>,
+    pub script: Watched<R>,
+}
+
+/// When a run settles the papers that its script amends. It writes the same either way.
+#[derive(Clone, Copy, Debug, PartialEq, Eq)]
+pub enum Settling {
+    /// Once, after the last record.
+    AtTheEnd,
+    /// After each amendment that is accepted, as a clearing does that answers questions between its amendments.
+    EachTime,
+}
 
 /// The records of a script, or the fault of it.
 fn read_records(alloc: Global, script: &[u8]) -> Result<ScriptRecords<'_>, RunFault>

@@ -2,15 +2,13 @@
 
 ghost use Rattle.std.specs.Prelude.{IfErr, IfOk};
 ghost use Rattle.sc_repair.specs.Standing.{IsCertified};
+ghost use Rattle.sc_steps.specs.Steps.{papers_held};
 ghost use Rattle.sc_runs.specs.Standing.{IsStandingFault, Stands};
-ghost use Rattle.sc_runs.specs.Steps.{papers_held};
 
-use crate::fault::RunFault;
-use crate::inputs::OpeningSlices;
-use crate::opening::read_papers;
 use sc_journal::{Tail, replay};
 use sc_papers::Seed;
 use sc_repair::Clearing;
+use sc_steps::{OpeningSlices, RunFault, read_papers};
 use std::alloc::Global;
 
 /// Opens the papers that the texts hold, and makes the amendments of a journal in turn. It answers what then stands,

@@ -3,22 +3,21 @@
 ghost use Rattle.std.specs.Prelude.{◌≡◌, IfOk, is_some};
 ghost use Rattle.sc_repair.specs.Standing.{matching_of};
 ghost use Rattle.sc_report.specs.Watched.{device_of};
-ghost use Rattle.sc_runs.specs.Failing.{OutputFailsAsTold};
-ghost use Rattle.sc_runs.specs.Inputs.{opening_turns};
-ghost use Rattle.sc_runs.specs.Opening.{WritesText};
+ghost use Rattle.sc_steps.specs.Failing.{OutputFailsAsTold};
+ghost use Rattle.sc_steps.specs.Inputs.{opening_turns};
+ghost use Rattle.sc_steps.specs.Opening.{WritesText};
+ghost use Rattle.sc_steps.specs.Steps.{papers_held, OutputGets};
 ghost use Rattle.sc_runs.specs.Standing.{journal_turns, AllTakeWithin, IsSummary, IsTable, TellsFiles, WritesOfStanding};
-ghost use Rattle.sc_runs.specs.Steps.{papers_held, standing_text, IsStandingText, OutputGets};
+ghost use Rattle.sc_runs.specs.Steps.{standing_text, IsStandingText};
 
-use crate::fault::RunFault;
-use crate::inputs::{Opening, OpeningSlices, read_opening_and};
 use crate::standing::clearing_after;
-use crate::writing::write_text;
 use sc_intake::Source;
 use sc_journal::Tail;
 use sc_notices::summary_text;
 use sc_papers::Seed;
 use sc_repair::Clearing;
 use sc_report::{Table, Watched, table_text};
+use sc_steps::{Opening, OpeningSlices, RunFault, read_opening_and, write_text};
 use std::alloc::{AllocError, Global};
 use std::io::{Read, Write};
 

@@ -1,16 +1,16 @@
 use Rattle.std.proofs.Common.{◌≡◌, ◌≢◌, ℕ, List, Option, None, Some, Result, false, Ok, Err, ap, subst, sym, ◌∙◌}
 use Rattle.std.specs.Option.{option_copied}
 use Rattle.sc_report.specs.Watched.{device_of}
+use Rattle.sc_steps.specs.Failing.{is_journal_fault}
+use Rattle.sc_steps.specs.Opening.{papers_in}
+use Rattle.sc_steps.specs.declared.fault.RunFault.{RunFault}
+use Rattle.sc_steps.specs.declared.fault.RunFault.TheVariants.{Read, Intake, Journal, WriteOut, WriteJournal, OutOfMemory}
+use Rattle.sc_steps.proofs.Openings.{Keeps-refl}
 use Rattle.sc_runs.specs.Bundle.{bundle_of, sections_of}
 use Rattle.sc_runs.specs.BundleRun.{EndsBundle, RunsSections, WritesWith}
-use Rattle.sc_runs.specs.Failing.{is_journal_fault}
-use Rattle.sc_runs.specs.Opening.{papers_in}
 use Rattle.sc_runs.specs.Steps.{ending_of}
 use Rattle.sc_runs.specs.declared.ending.Ending.TheVariants.{Fault}
-use Rattle.sc_runs.specs.declared.fault.RunFault.{RunFault}
-use Rattle.sc_runs.specs.declared.fault.RunFault.TheVariants.{Read, Intake, Journal, WriteOut, WriteJournal, OutOfMemory}
 use Rattle.sc_runs.proofs.Calls.{is-reading}
-use Rattle.sc_runs.proofs.Openings.{Keeps-refl}
 use Rattle.sc_runs.proofs.bundle_run.run_text.Goals as goal
 
 -- a run that no journal ended does not end as one

@@ -1,5 +1,5 @@
 use Rattle.std.proofs.Common.{refl}
-use Rattle.sc_runs.proofs.Openings.{Keeps-refl}
+use Rattle.sc_steps.proofs.Openings.{Keeps-refl}
 use Rattle.sc_runs.proofs.changing.answer_no_line.Goals as goal
 
 pub returns-clause-change : goal.returns-clause-change

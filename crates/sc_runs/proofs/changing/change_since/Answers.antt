@@ -1,7 +1,7 @@
 use Rattle.std.proofs.Common.{Err, Ok, subst, sym, rules}
 use Rattle.sc_report.specs.Watched.{device_of}
+use Rattle.sc_steps.specs.Opening.{papers_in}
 use Rattle.sc_runs.specs.Changing.{IsChange}
-use Rattle.sc_runs.specs.Opening.{papers_in}
 use Rattle.sc_runs.proofs.Changes.{fault-more, told-change, told-fault}
 use Rattle.sc_runs.proofs.changing.change_since.Goals as goal
 use Rattle.sc_runs.specs.Steps.{ArePlacesAfter}

@@ -1,10 +1,10 @@
 use Rattle.std.proofs.Common.{◌++◌, ◌∷◌, []}
 use Rattle.sc_intake.specs.declared.fault.Source.TheVariants as input
 use Rattle.sc_report.specs.Watched.{device_of}
-use Rattle.sc_runs.specs.Inputs.{opening_turns, turn_of}
+use Rattle.sc_steps.specs.Inputs.{opening_turns, turn_of}
+use Rattle.sc_steps.specs.Steps.{texts_of}
 use Rattle.sc_runs.proofs.Changes.{ChangesFiles-read}
 use Rattle.sc_runs.proofs.changing.changes_files.Goals as goal
-use Rattle.sc_runs.specs.Steps.{texts_of}
 
 pub returns-clause-change : goal.returns-clause-change
 returns-clause-change g c =

@@ -2,8 +2,8 @@ use Rattle.std.proofs.Common.{◌++◌}
 use Rattle.sc_intake.specs.declared.fault.Source.TheVariants as input
 use Rattle.sc_checks.specs.Representation.{names_view}
 use Rattle.sc_report.specs.Watched.{device_of, has_failed}
-use Rattle.sc_runs.specs.Inputs.{opening_turns, turns_if_any}
-use Rattle.sc_runs.specs.Steps.{texts_of}
+use Rattle.sc_steps.specs.Inputs.{opening_turns, turns_if_any}
+use Rattle.sc_steps.specs.Steps.{texts_of}
 use Rattle.sc_runs.specs.declared.checking.Checked.{Checked}
 use Rattle.sc_runs.proofs.Checks.{ChecksFiles-read}
 use Rattle.sc_runs.proofs.Standings.{unfailed-unread}

@@ -1,8 +1,8 @@
 use Rattle.std.proofs.Common.{inr, subst}
+use Rattle.sc_steps.specs.Opening.{opening_in}
+use Rattle.sc_steps.specs.Steps.{texts_of}
 use Rattle.sc_runs.specs.Exporting.{ExportsStanding}
-use Rattle.sc_runs.specs.Opening.{opening_in}
 use Rattle.sc_runs.proofs.exporting.export_files.Goals as goal
-use Rattle.sc_runs.specs.Steps.{texts_of}
 
 pub returns-clause-files : goal.returns-clause-files
 returns-clause-files g c = inr (

@@ -1,9 +1,9 @@
 use Rattle.std.proofs.Common.{◌++◌, rules}
 use Rattle.sc_report.specs.Watched.{device_of, has_failed}
-use Rattle.sc_runs.specs.Inputs.{opening_turns}
+use Rattle.sc_steps.specs.Inputs.{opening_turns}
+use Rattle.sc_steps.specs.Steps.{texts_of}
 use Rattle.sc_runs.specs.Notices.{TellsStanding}
 use Rattle.sc_runs.specs.Standing.{journal_turns}
-use Rattle.sc_runs.specs.Steps.{texts_of}
 use Rattle.sc_runs.proofs.Standings.{TellsFiles-read, unfailed-unread}
 use Rattle.sc_runs.proofs.notices.notice_files.Goals as goal
 

@@ -2,9 +2,9 @@ use Rattle.std.proofs.Common.{rules}
 use Rattle.sc_intake.specs.Log.{log_in}
 use Rattle.sc_intake.specs.declared.fault.Source.TheVariants as input
 use Rattle.sc_report.specs.Watched.{device_of}
-use Rattle.sc_runs.specs.Inputs.{turn_of}
+use Rattle.sc_steps.specs.Inputs.{turn_of}
+use Rattle.sc_steps.proofs.Openings.{Keeps-refl}
 use Rattle.sc_runs.proofs.Findings.{WritesFinding-ended, WritesFinding-failed, WritesFinding-written}
-use Rattle.sc_runs.proofs.Openings.{Keeps-refl}
 use Rattle.sc_runs.proofs.publishing.audit_papers.Goals as goal
 
 pub returns-in-Err-find : goal.returns-in-Err-find

@@ -1,10 +1,10 @@
 use Rattle.std.proofs.Common.{◌++◌, ◌∷◌, []}
 use Rattle.sc_intake.specs.declared.fault.Source.TheVariants as input
 use Rattle.sc_report.specs.Watched.{device_of}
-use Rattle.sc_runs.specs.Inputs.{opening_turns, turn_of}
+use Rattle.sc_steps.specs.Inputs.{opening_turns, turn_of}
+use Rattle.sc_steps.specs.Steps.{texts_of}
 use Rattle.sc_runs.proofs.Findings.{AuditsReport-read}
 use Rattle.sc_runs.proofs.publishing.audit_report_files.Goals as goal
-use Rattle.sc_runs.specs.Steps.{texts_of}
 
 pub returns-clause-finding : goal.returns-clause-finding
 returns-clause-finding g c =

@@ -1,6 +1,6 @@
 use Rattle.std.proofs.Common.{refl, subst, Ok, Err, rules}
 use Rattle.sc_report.specs.Watched.{device_of}
-use Rattle.sc_runs.specs.Opening.{IsReport, WritesText}
+use Rattle.sc_steps.specs.Opening.{IsReport, WritesText}
 use Rattle.sc_runs.proofs.ReportOrder.{writes-reordered}
 use Rattle.sc_runs.proofs.replaying.report_amended.Goals as goal
 

@@ -2,10 +2,10 @@ use Rattle.std.proofs.Common.{◌∷◌, [], Ok, Err, rules}
 use Rattle.sc_repair.specs.Standing.{matching_of}
 use Rattle.sc_report.specs.Text.{report_text, IsReportText}
 use Rattle.sc_report.specs.Watched.{device_of}
-use Rattle.sc_runs.specs.TwoWriters.{to_output}
-use Rattle.sc_runs.proofs.Openings.{Keeps-refl}
-use Rattle.sc_runs.proofs.TwoWriters.{is_journal_fault-text, GrowsByPrefix-flushed, Writes-flushed, Writes-output}
-use Rattle.sc_runs.proofs.Replies.{or-nothing}
+use Rattle.sc_steps.specs.TwoWriters.{to_output}
+use Rattle.sc_steps.proofs.Openings.{Keeps-refl}
+use Rattle.sc_steps.proofs.TwoWriters.{is_journal_fault-text, GrowsByPrefix-flushed, Writes-flushed, Writes-output}
+use Rattle.sc_steps.proofs.Answering.{or-nothing}
 use Rattle.sc_runs.proofs.running.finish.Goals as goal
 
 pub returns-in-Err : goal.returns-in-Err

@@ -1,9 +1,9 @@
 use Rattle.std.proofs.Common.{◌++◌, ◌∷◌, []}
 use Rattle.sc_intake.specs.declared.fault.Source.TheVariants as input
 use Rattle.sc_report.specs.Watched.{device_of}
-use Rattle.sc_runs.specs.Inputs.{opening_turns, turn_of}
-use Rattle.sc_runs.specs.Opening.{opening_in}
-use Rattle.sc_runs.specs.Steps.{texts_of}
+use Rattle.sc_steps.specs.Inputs.{opening_turns, turn_of}
+use Rattle.sc_steps.specs.Opening.{opening_in}
+use Rattle.sc_steps.specs.Steps.{texts_of}
 use Rattle.sc_runs.proofs.Calls.{is-reading, RunsFiles-read}
 use Rattle.sc_runs.proofs.running.run.Goals as goal
 

@@ -1,8 +1,8 @@
 use Rattle.std.proofs.Common.{◌≡◌, Err, sym, ◌∙◌, ap, subst, rules}
 use Rattle.sc_papers.specs.WellFormed.{WellFormed}
 use Rattle.sc_report.specs.Watched.{device_of}
-use Rattle.sc_runs.specs.TwoWriters.{GrowsByAll}
-use Rattle.sc_runs.specs.Run.{after_script, answers, Writes}
+use Rattle.sc_steps.specs.TwoWriters.{GrowsByAll}
+use Rattle.sc_steps.specs.Script.{after_script, answers, Writes}
 use Rattle.sc_runs.proofs.LastReport.{WellFormed-after_script}
 use Rattle.sc_runs.proofs.Replies.{WritesSession-answered, WritesSession-ended}
 use Rattle.sc_runs.proofs.running.run_records.Goals as goal

@@ -2,10 +2,10 @@ use Rattle.std.proofs.Common.{refl, ap, subst, ◌∷◌, [], rules}
 use Rattle.sc_repair.specs.Standing.{matching_of}
 use Rattle.sc_report.specs.Text.{report_text}
 use Rattle.sc_report.specs.Watched.{device_of}
+use Rattle.sc_steps.specs.TwoWriters.{to_output}
+use Rattle.sc_steps.proofs.TwoWriters.{GrowsByPrefix-nothing}
 use Rattle.sc_runs.specs.Steps.{WritesLastReport}
-use Rattle.sc_runs.specs.TwoWriters.{to_output}
 use Rattle.sc_runs.proofs.LastReport.{IsReport-some}
-use Rattle.sc_runs.proofs.TwoWriters.{GrowsByPrefix-nothing}
 use Rattle.sc_runs.proofs.running.settle_and_finish.Goals as goal
 
 pub returns-in-Ok : goal.returns-in-Ok

@@ -1,11 +1,12 @@
 use Rattle.std.proofs.Common.{◌++◌, rules}
 use Rattle.sc_journal.specs.declared.journal.Tail.{Tail}
 use Rattle.sc_report.specs.Watched.{device_of, has_failed}
-use Rattle.sc_runs.specs.Inputs.{opening_turns}
+use Rattle.sc_steps.specs.Inputs.{opening_turns}
+use Rattle.sc_steps.specs.Steps.{texts_of}
 use Rattle.sc_runs.specs.Standing.{journal_turns, WritesOfStanding}
 use Rattle.sc_runs.proofs.Standings.{TellsFiles-read, unfailed-unread}
 use Rattle.sc_runs.proofs.telling.tell_files.Goals as goal
-use Rattle.sc_runs.specs.Steps.{texts_of, IsStandingText}
+use Rattle.sc_runs.specs.Steps.{IsStandingText}
 
 pub returns-in-Err-clause-told : goal.returns-in-Err-clause-told
 returns-in-Err-clause-told g c = record {

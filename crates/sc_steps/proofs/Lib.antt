@@ -1,0 +1,4 @@
+pub mod Openings
+pub mod Reading
+pub mod TwoWriters
+pub mod Answering
