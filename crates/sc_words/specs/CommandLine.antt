@@ -58,40 +58,6 @@ admissions_names = opening_names
 abbrev pub changes_names : List Text
 changes_names = opening_names ++ codes "journal" ∷ []
 
-abbrev pub check_options : List Rule
-check_options = map required_option check_names ++ optional_option (codes "script") ∷ []
-
-abbrev pub opening_options : List Rule
-opening_options = map required_option opening_names
-
-abbrev pub match_options : List Rule
-match_options = opening_options ++ flag (codes "print-log") ∷ optional_option (codes "table") ∷ []
-
-abbrev pub run_options : List Rule
-run_options = map required_option run_names
-    ++ flag (codes "no-clobber") ∷ flag (codes "settle-each") ∷ flag (codes "settle-at-end") ∷ []
-
-abbrev pub audit_options : List Rule
-audit_options = map required_option audit_names ++ optional_option (codes "report") ∷ []
-
-abbrev pub replay_options : List Rule
-replay_options = map required_option replay_names ++ optional_option (codes "table") ∷ []
-
-abbrev pub export_options : List Rule
-export_options = map required_option export_names ++ optional_option (codes "journal") ∷ []
-
-abbrev pub summary_options : List Rule
-summary_options = map required_option summary_names ++ optional_option (codes "journal") ∷ []
-
-abbrev pub explain_options : List Rule
-explain_options = map required_option explain_names ++ optional_option (codes "student") ∷ optional_option (codes "journal") ∷ []
-
-abbrev pub admissions_options : List Rule
-admissions_options = map required_option admissions_names ++ optional_option (codes "school") ∷ optional_option (codes "journal") ∷ []
-
-abbrev pub changes_options : List Rule
-changes_options = map required_option changes_names ++ optional_option (codes "since") ∷ []
-
 -- a subcommand with these options
 abbrev pub subcommand : Text → List Rule → Shape
 subcommand name options = record (new_shape name) { rules = options }
@@ -108,12 +74,17 @@ program_alone = record (new_shape (codes "clearinghouse")) {
 abbrev pub command_line : App
 command_line = record {
   top = record program_alone { is_leaf = false };
-  subs = subcommand (codes "check") check_options
-      ∷ subcommand (codes "match") match_options ∷ subcommand (codes "run") run_options
-      ∷ subcommand (codes "audit") audit_options ∷ subcommand (codes "replay") replay_options
-      ∷ subcommand (codes "export") export_options ∷ subcommand (codes "summary") summary_options
-      ∷ subcommand (codes "explain") explain_options ∷ subcommand (codes "admissions") admissions_options
-      ∷ subcommand (codes "changes") changes_options ∷ [];
+  subs = subcommand (codes "check") (map required_option check_names ++ optional_option (codes "script") ∷ [])
+      ∷ subcommand (codes "match") (map required_option opening_names ++ flag (codes "print-log") ∷ optional_option (codes "table") ∷ [])
+      ∷ subcommand (codes "run") (map required_option run_names ++ flag (codes "no-clobber") ∷ flag (codes "settle-each") ∷ flag (codes "settle-at-end") ∷ [])
+      ∷ subcommand (codes "audit") (map required_option audit_names ++ optional_option (codes "report") ∷ [])
+      ∷ subcommand (codes "replay") (map required_option replay_names ++ optional_option (codes "table") ∷ [])
+      ∷ subcommand (codes "export") (map required_option export_names ++ optional_option (codes "journal") ∷ [])
+      ∷ subcommand (codes "summary") (map required_option summary_names ++ optional_option (codes "journal") ∷ [])
+      ∷ subcommand (codes "explain") (map required_option explain_names ++ optional_option (codes "student") ∷ optional_option (codes "journal") ∷ [])
+      ∷ subcommand (codes "admissions") (map required_option admissions_names ++ optional_option (codes "school") ∷ optional_option (codes "journal") ∷ [])
+      ∷ subcommand (codes "changes") (map required_option changes_names ++ optional_option (codes "since") ∷ [])
+      ∷ [];
 }
 
 -- `clap` has been told of this option, for its own command alone

@@ -1,3 +1,4 @@
 pub mod CommandLine
 pub mod Complete
 pub mod Orders
+pub mod Table

@@ -1,4 +1,4 @@
-//! What `--help` says.
+//! The version, and the longer texts of `--help`.
 
 /// The version that `--version` tells.
 pub(crate) const VERSION: &str = "0.1.0";
@@ -14,9 +14,6 @@ out of memory. A fault is told in one line on standard error.
 Example:
   clearinghouse < bundle";
 
-pub(crate) const CHECK: &str =
-    "Tell every fault of the files of an opening, and of a script if there is one";
-
 pub(crate) const CHECK_AFTER: &str = "\
 Writes a line for each row that has a fault, with its first cause: the file, the line as an editor counts it, the
 school or the student whose row it is, what stands there, what is expected, and the cause. First comes what is wrong
@@ -30,9 +27,6 @@ of memory.
 Example:
   clearinghouse check --schools schools.csv --roster roster.csv --lists lists.csv --script script.csv";
 
-pub(crate) const MATCH: &str =
-    "Assign the places of an opening and write the report, or with --print-log its log of rejections";
-
 pub(crate) const MATCH_AFTER: &str = "\
 The report is the assignment, the cutoffs and the reasons, each under a header of its own. With --table one of them is
 written alone, so that a spreadsheet opens it. The log of rejections has one record for each rejection,
@@ -44,9 +38,6 @@ opened, read or written, 5 out of memory.
 Example:
   clearinghouse match --seed 0000000000000000000000000000000000000000000000000000000000000000 \\
       --schools schools.csv --roster roster.csv --lists lists.csv";
-
-pub(crate) const RUN: &str =
-    "Answer a script of amendments after an opening, write the replies and the report, and keep a journal of what was accepted";
 
 pub(crate) const RUN_AFTER: &str = "\
 A script has no header. Its records:
@@ -76,9 +67,6 @@ Example:
   clearinghouse run --seed 0000000000000000000000000000000000000000000000000000000000000000 \\
       --schools schools.csv --roster roster.csv --lists lists.csv --script script.csv --journal journal";
 
-pub(crate) const AUDIT: &str =
-    "Check a log of rejections against an opening, without trusting who made it";
-
 pub(crate) const AUDIT_AFTER: &str = "\
 Writes certified, or bad entry LINE for the first entry of the log that the rules do not give, or over SCHOOL for a
 school that has more students than seats at its end. With --report the report that was published is compared
@@ -92,8 +80,6 @@ Example:
   clearinghouse audit --seed 0000000000000000000000000000000000000000000000000000000000000000 \\
       --schools schools.csv --roster roster.csv --lists lists.csv --log log.csv";
 
-pub(crate) const REPLAY: &str = "Replay a journal over an opening and write the report";
-
 pub(crate) const REPLAY_AFTER: &str = "\
 A last line that was cut short is left out and told on standard error; that is no fault. With --table one table of
 the report is written alone.
@@ -104,9 +90,6 @@ opened, read or written, 5 out of memory.
 Example:
   clearinghouse replay --seed 0000000000000000000000000000000000000000000000000000000000000000 \\
       --schools schools.csv --roster roster.csv --lists lists.csv --journal journal";
-
-pub(crate) const EXPORT: &str =
-    "Write the papers of an opening, as they stand after a journal if there is one, as the files of a new opening";
 
 pub(crate) const EXPORT_AFTER: &str = "\
 Makes schools.csv, roster.csv and lists.csv in FOLDER, which has to be there. A file of one of these names that
@@ -122,9 +105,6 @@ Example:
   clearinghouse export --seed 0000000000000000000000000000000000000000000000000000000000000000 \\
       --schools schools.csv --roster roster.csv --lists lists.csv --journal journal --to next";
 
-pub(crate) const SUMMARY: &str =
-    "Write what a district publishes: how many students have each rank, and how sought after each school is";
-
 pub(crate) const SUMMARY_AFTER: &str = "\
 The first table has a line for each rank that some student has, and a last one, -, for the students without a
 school; the second a line for each school: its seats, how many are held, how many are free, and how many
@@ -137,9 +117,6 @@ opened, read or written, 5 out of memory.
 Example:
   clearinghouse summary --seed 0000000000000000000000000000000000000000000000000000000000000000 \\
       --schools schools.csv --roster roster.csv --lists lists.csv --journal journal";
-
-pub(crate) const EXPLAIN: &str =
-    "Write what came of each choice of every student, or of one, and why";
 
 pub(crate) const EXPLAIN_AFTER: &str = "\
 The table has a line for each choice, students by number and best choice first: the choice's rank from 1, the
@@ -155,9 +132,6 @@ Example:
   clearinghouse explain --seed 0000000000000000000000000000000000000000000000000000000000000000 \\
       --schools schools.csv --roster roster.csv --lists lists.csv --student 1";
 
-pub(crate) const ADMISSIONS: &str =
-    "Write the class list and the waiting list of every school, or of one";
-
 pub(crate) const ADMISSIONS_AFTER: &str = "\
 The table has, for each school by number, a line for each student who has it, admitted, and then one for each who
 prefers it to what they have, waiting. Each of the two lists goes by priority class, then draw, then number, and has
@@ -171,9 +145,6 @@ Example:
   clearinghouse admissions --seed 0000000000000000000000000000000000000000000000000000000000000000 \\
       --schools schools.csv --roster roster.csv --lists lists.csv --school 1";
 
-pub(crate) const CHANGES: &str =
-    "Write whose place the amendments changed since results were published";
-
 pub(crate) const CHANGES_AFTER: &str = "\
 The table has a line for each student whose place is another one, by rising number: the place before, and the place
 after all amendments of the journal. A place is a school's number, - for none, or absent for a student who is not in
@@ -186,55 +157,3 @@ journal's last whole one, 4 a file or stream that cannot be opened, read or writ
 Example:
   clearinghouse changes --seed 0000000000000000000000000000000000000000000000000000000000000000 \\
       --schools schools.csv --roster roster.csv --lists lists.csv --journal journal --since 2";
-
-pub(crate) const SEED: &str = "The lottery's seed, 64 hexadecimal digits";
-
-pub(crate) const SCHOOLS: &str =
-    "The schools, one a row under the header school,zone,seats (zone 0: none)";
-
-pub(crate) const ROSTER: &str =
-    "The students, one a row under the header student,zone,siblings (the schools of their siblings) or student,zone,siblings,continuing (and the school at which they continue, or nothing)";
-
-pub(crate) const LISTS: &str =
-    "The students' choices, one student a row under the header student,choices (schools, best first)";
-
-pub(crate) const PRINT_LOG: &str = "Write the log of rejections in place of the report";
-
-pub(crate) const SCRIPT: &str = "The amendments, one a record and no header (below)";
-
-pub(crate) const CHECKED_SCRIPT: &str =
-    "The amendments, of which each record is read and none is made";
-
-pub(crate) const NEW_JOURNAL: &str =
-    "The file that keeps the accepted amendments; it is made new, or emptied before the inputs are read, and must not be one of them";
-
-pub(crate) const NO_CLOBBER: &str =
-    "Refuse a journal that is there already, unless it is an empty file, rather than empty it";
-
-pub(crate) const SETTLE_EACH: &str =
-    "Settle the papers after each amendment, and not once, after the last record; the bytes are the same, and a long script takes longer";
-
-pub(crate) const SETTLE_AT_END: &str =
-    "Settle the papers once, after the last record, as is done anyway; this changes nothing";
-
-pub(crate) const LOG: &str = "The log of rejections, a record STUDENT,SCHOOL each and no header";
-
-pub(crate) const REPORT: &str =
-    "The report that was published, which is to be that of the log's assignment";
-
-pub(crate) const TABLE: &str =
-    "Write one table of the report alone: assignment, cutoffs or reasons";
-
-pub(crate) const OLD_JOURNAL: &str =
-    "The journal that a run kept: a line for each accepted amendment, its number and the amendment";
-
-pub(crate) const KEPT_JOURNAL: &str = "The journal that a run kept, if amendments were made";
-
-pub(crate) const STUDENT: &str = "The number of the one student whose lines are written";
-
-pub(crate) const SCHOOL: &str = "The number of the school whose lists alone are to be written";
-
-pub(crate) const SINCE: &str =
-    "How many lines the journal had when the results were published; without it, none";
-
-pub(crate) const TO: &str = "The folder in which schools.csv, roster.csv and lists.csv are made";

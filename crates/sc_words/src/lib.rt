@@ -6,6 +6,7 @@
 mod help;
 mod order;
 mod program;
+mod table;
 mod word;
 
 pub use order::{FileWords, OpeningWords, Order, Subcommand, order_of};
