@@ -13,13 +13,7 @@ pub mod Settling
 pub mod Everybody
 pub mod Putting
 pub mod Ranks
-pub mod Renewing
 pub mod Resuming
-pub mod Growing
 pub mod Forgetting
-pub mod Leaving
-pub mod Taking
-pub mod Changing
 pub mod Proposing
-mod Clearing
 pub mod Together

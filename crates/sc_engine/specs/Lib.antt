@@ -5,7 +5,5 @@ pub mod Counting
 pub mod Applicants
 pub mod Proposals
 pub mod SettledPlaces
-pub mod Noted
 pub mod Fresh
-pub mod Leaving
 pub mod Together

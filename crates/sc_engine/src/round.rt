@@ -8,17 +8,15 @@ ghost use Rattle.sc_tallies.specs.Places.{ArePlaces};
 ghost use Rattle.sc_tallies.specs.Tally.{AreTallies};
 
 mod chains;
-mod leaving;
 mod ranks;
 mod resume;
 mod rolls;
 mod starting;
-mod taking;
 mod together;
 
 use crate::rank_table::RankTable;
 use crate::settled::{Settled, SettledPlaces};
-use ranks::{assignment_of, next_in, next_near, places_of, position_near};
+use ranks::{assignment_of, next_in, places_of, position_near};
 use rolls::tallies_of;
 use sc_papers::{Assignment, FlatPapers, Rejection, SchoolNo, StudentNo};
 use sc_seats::Roll;
@@ -137,24 +135,6 @@ impl<R: Roll> Round<R> {
         next_in(self.ranks.as_slice(), papers, student)
     }
 
-    /// What `next_choice` says. A student who stands at the guessed position of the order of entry is not looked up
-    /// by number. In constant time. Of a spent round nothing is said.
-    pub fn next_choice_near(
-        &self,
-        papers: &FlatPapers,
-        student: StudentNo,
-        guess: usize,
-    ) -> Option<SchoolNo>
-        requires { is_spent self.now ≡ false → Fits papers.now (view_of R.keys R.seats self.now) }
-        ensures { is_spent self.now ≡ false → result ≡ next_of papers.now
-            (view_of R.keys R.seats self.now).ranks student }
-    {
-        if self.spent {
-            return None;
-        }
-        next_near(self.ranks.as_slice(), papers, student, guess)
-    }
-
     /// The rejections, in the order in which they happened.
     pub fn log(&self) -> &[Rejection]
         ensures { result.now ≡ (view_of R.keys R.seats self.now).log }
@@ -171,7 +151,7 @@ impl<R: Roll> Round<R> {
 
     /// Forgets the log and the count of proposals. Whoever stands somewhere stays there, and the round goes
     /// on as after the log that it had. It takes no memory.
-    pub fn forget_log(&mut self)
+    pub(crate) fn forget_log(&mut self)
         ensures forgotten { view_of R.keys R.seats self.new ≡ without_log (view_of R.keys R.seats self.old) }
         ensures spent { is_spent self.new ≡ is_spent self.old }
     {

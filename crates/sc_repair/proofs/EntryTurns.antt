@@ -10,7 +10,27 @@ use Rattle.indexmap.proofs.ReorderLemmas.{exchange-twice}
 use Rattle.sc_checkpoint.proofs.Replacing.{get-set-other, get-set-same}
 use Rattle.sc_repair.specs.Turns.{AreTurns, TurnsOfEntry, entered, exchanged, first_turns, left, swapped, unless_at}
 use Rattle.sc_repair.proofs.InTurn.{Alone, Avoids, exchanged-other, seam-there, swapped-there, take-there}
-use Rattle.sc_repair.proofs.Renewing.{get-append-low, get-take, get-ext}
+
+-- lists in which the same stands everywhere are the same
+get-ext : {X : Type 0} (xs ys : List X) → ((p : ℕ) → slice_get xs p ≡ slice_get ys p) → xs ≡ ys
+get-ext [] [] same = refl
+get-ext [] (y ∷ ys) same = absurd (none-some y (same 0))
+get-ext (x ∷ xs) [] same = absurd (none-some x (sym (same 0)))
+get-ext (x ∷ xs) (y ∷ ys) same =
+    let rest = get-ext xs ys (λ p. same (suc p)) in
+    λ t. same_Some x y (same 0) t ∷ rest t
+
+-- what stands in a part of a list
+get-take : {X : Type 0} (k : ℕ) (xs : List X) (p : ℕ) → p < k → slice_get (take k xs) p ≡ slice_get xs p
+get-take zero xs p low = absurd (omega (arith, low))
+get-take (suc k) [] p low = refl
+get-take (suc k) (x ∷ xs) zero low = refl
+get-take (suc k) (x ∷ xs) (suc p) low = get-take k xs p (omega (arith, low))
+
+get-append-low : {X : Type 0} (xs ys : List X) (p : ℕ) → p < length xs → slice_get (xs ++ ys) p ≡ slice_get xs p
+get-append-low [] ys p low = absurd (omega (arith, low))
+get-append-low (x ∷ xs) ys zero low = refl
+get-append-low (x ∷ xs) ys (suc p) low = get-append-low xs ys p (omega (arith, low))
 
 -- each position has its turn, and nobody stands past the last one
 pub turn-alone : (t : TurnsOfEntry) (p turn : ℕ) → AreTurns t → slice_get t.turns p ≡ Some turn → Alone t.positions p turn

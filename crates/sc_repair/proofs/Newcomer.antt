@@ -1,313 +1,233 @@
--- Whom a newcomer's chain moves on, and where everybody stands after it.
-use Rattle.std.proofs.Common.{◌≡◌, inl, inr, refl, ap, sym, subst, ◌∙◌, ℕ, nat_eq, ◌==◌, Bool, true, false, not, ◌&&◌, ◌||◌, cond, List, [], ◌∷◌, ◌++◌, Option, Some, None, find, is_some, append_assoc, append-nil, ◌+◌, length, take, drop, Contains, count_by, arith, Err, Ok, IfSome}
-use Rattle.std.proofs.lemmas.Grind.{common_steps}
-use Rattle.std.proofs.lemmas.Bool.Decides.{nat_tests}
-use Rattle.std.proofs.Math.Bool.{or-false}
-use Rattle.std.proofs.lemmas.Bool.{cond-true, eqb-false, or_left, or_parts, not_from_true, not-false, eq-eqb, false_from_ne_true, or_right}
-use Rattle.std.proofs.lemmas.List.Folds.{list_any-append}
-use Rattle.std.proofs.lemmas.Option.{none-some, same_Some}
-use Rattle.sc_papers.specs.Assignment.{assigned}
-use Rattle.sc_papers.specs.Log.{is_rejected, next_choice, matching_of}
-use Rattle.sc_papers.specs.Market.{Market, choices_of, is_student, students_of}
-use Rattle.sc_papers.specs.Restriction.{restricted, cut, joined, outside}
-use Rattle.sc_papers.specs.declared.rejection.Rejection.{Rejection}
-use Rattle.sc_papers.proofs.Rejections.{next-same}
-use Rattle.sc_papers.proofs.Restriction.{next-dropped, next-kept, restricted-restricts}
-use Rattle.sc_engine.specs.RoundView.{RoundView, has_entered, next_of, without_log, Continues, Enters}
-use Rattle.sc_repair.specs.Changed.{is_moved, EntersBy, newcomer, HasEntered, IsNextToEnter, standing_of}
-use Rattle.std.specs.List.{list_any}
-use Rattle.std.proofs.lemmas.List.{drop-append-le, drop_all, length-append, length-map, map-append, take_all}
-use Rattle.std.proofs.lemmas.Map.Made.{is_some-lookup}
-use Rattle.sc_papers.specs.Matching.{how_many, Matching, IsStudentOptimal}
-use Rattle.sc_papers.specs.Progress.{placed}
-use Rattle.sc_papers.specs.Verdict.{after, verdict}
-use Rattle.sc_papers.specs.declared.amendment.Amendment.{Amendment}
-use Rattle.sc_papers.proofs.Locality.{optimal-outside}
-use Rattle.sc_papers.proofs.Positions.{among-student, student-among}
-use Rattle.sc_papers.proofs.Sums.{sum-add, sum-agree}
-use Rattle.sc_papers.proofs.Students.{how_many-agree, lister-among}
-use Rattle.sc_checkpoint.specs.Chains.{logs_in, students_in, Chain}
-use Rattle.sc_region.specs.Region.{amended, concerned, next, InRegion}
-use Rattle.sc_weave.specs.Weaving.{part_of}
-use Rattle.sc_repair.specs.Locality.{placed_of, TellsRegion}
-use Rattle.sc_repair.specs.Resumption.{placed_first, GoesOn}
-use Rattle.sc_repair.specs.Rewinding.{rewind_point}
-use Rattle.sc_repair.specs.Standing.{Standing, CountsInside, CountsRegion, IsCertified, KeepsOthers, IsAmended}
-use Rattle.sc_repair.proofs.Resumption.{cut-grown, goes-on-entered, is-entry, next-to-enter, stands-entered, students-grown, with_log, IsEntry, certified-of, length-students, next-all, segments-all, students-all, stands-grown}
-use Rattle.sc_repair.proofs.Regional.{changes-inside}
-use Rattle.sc_repair.proofs.Told.{same-if_told}
-use Rattle.std.specs.Option.{IsSomeAnd}
+-- A newcomer, who enters after all others: where everybody stands then, and what the settling comes to.
+use Rattle.std.proofs.Common.{◌≡◌, inl, inr, refl, ap, sym, subst, ◌∙◌, ℕ, ◌+◌, ◌==◌, ◌||◌, Bool, true, false, cond, List, [], ◌∷◌, ◌++◌, length, slice_get, take, Some, None, Ok, Err, arith}
 use Rattle.std.specs.declared.alloc.AllocError.{AllocError}
+use Rattle.std.proofs.lemmas.Grind.{common_steps}
+use Rattle.std.proofs.lemmas.Bool.{cases_Bool, eqb-true, false_from_ne_true, false≢true}
+use Rattle.std.proofs.lemmas.List.{length-append, length-map, map-append, take-append-le, take_all}
+use Rattle.std.proofs.lemmas.Option.{get_or_from_slice_get, none-some, same_Some}
+use Rattle.std.proofs.Math.Bool.{or-false}
+use Rattle.sc_papers.specs.Assignment.{assigned}
+use Rattle.sc_papers.specs.Log.{matching_of, next_choice}
+use Rattle.sc_papers.specs.Market.{Market, students_of}
+use Rattle.sc_papers.specs.Matching.{IsStudentOptimal}
+use Rattle.sc_papers.specs.Restriction as whole
+use Rattle.sc_papers.specs.Restriction.{cut, is_among_first, joined, restricted, IsSegmented}
+use Rattle.sc_papers.specs.Verdict.{after, verdict, with_student}
 use Rattle.sc_papers.specs.WellFormed.{WellFormed}
-use Rattle.sc_papers.specs.declared.key.Key.{Key}
+use Rattle.sc_papers.specs.declared.amendment.Amendment.{Amendment}
+use Rattle.sc_papers.specs.declared.amendment.Amendment.TheVariants.{Enter}
+use Rattle.sc_papers.specs.declared.records.Student.{Student}
+use Rattle.sc_papers.specs.declared.rejection.Rejection.{Rejection}
 use Rattle.sc_papers.proofs.Amending.{WellFormed-after}
-use Rattle.sc_engine.specs.Round.{is_spent, view_of}
-use Rattle.sc_engine.specs.declared.round.Round.{Round}
-use Rattle.sc_seats.specs.Roll.{RollView}
-use Rattle.sc_repair.specs.Representation.{IsKept}
+use Rattle.sc_papers.proofs.Cutting.{cut-all, cut-restricted, joined-push}
+use Rattle.sc_papers.proofs.Locality.{optimal-outside}
+use Rattle.sc_papers.proofs.Restriction.{next-dropped, next-kept, restricted-restricts}
+use Rattle.sc_checkpoint.specs.Chains.{logs_in, students_in, with_chain, Chain}
+use Rattle.sc_region.specs.Region.{amended, amended_student}
+use Rattle.sc_region.proofs.Reaching.{region-exact, region_members}
+use Rattle.sc_ledgers.specs.Cohort.{cohort}
+use Rattle.sc_ledgers.specs.Course.{labels_of}
+use Rattle.sc_ledgers.specs.Elsewhere.{is_aside, AreApart}
+use Rattle.sc_ledgers.specs.Entered.{HasEntered}
+use Rattle.sc_ledgers.specs.Opening.{everybody}
+use Rattle.sc_ledgers.specs.Proposals.{made_at}
+use Rattle.sc_ledgers.specs.Renewed.{AreTurnsOf}
+use Rattle.sc_ledgers.specs.Whole.{AreWhole}
+use Rattle.sc_ledgers.specs.declared.elsewhere.Stance.{Stance}
+use Rattle.sc_ledgers.specs.declared.ledger.Label.{Label}
+use Rattle.sc_ledgers.proofs.Cohorts.{first-more, run-segments}
+use Rattle.sc_ledgers.proofs.Siding.{aside-there, beside-absent}
+use Rattle.sc_ledgers.proofs.TurnsMade.{made-inside}
+use Rattle.sc_repair.specs.Anew.{AreLedgersOf, HavePlaces}
+use Rattle.sc_repair.specs.Changed.{newcomer, standing_of}
+use Rattle.sc_repair.specs.Locality.{is_among, placed_of}
+use Rattle.sc_repair.specs.Replacing.{with_given, with_replaced}
+use Rattle.sc_repair.specs.Rewinding.{rewind_point}
+use Rattle.sc_repair.specs.Standing.{CountsInside, CountsRegion, IsAmended, IsCertified, KeepsOthers, Standing}
+use Rattle.sc_repair.proofs.InTurn.{seam-there}
+use Rattle.sc_repair.proofs.Regional.{keeps-others, list-tells, region-alike, region-apart, region-apart_after}
+use Rattle.sc_repair.proofs.Replaced.{replaced-places}
+use Rattle.sc_repair.proofs.Resumption.{certified-of, length-students, logs-push, students-push}
 
--- whom no entry of a chain names stays where they stood
-next-unmoved : (m : Market) (log chain : List Rejection) (i : ℕ) → is_moved chain i ≡ false → next_choice m (log ++ chain) i ≡ next_choice m log i
-next-unmoved m log [] i unmoved = ap (λ l. next_choice m l i) (append-nil log)
-next-unmoved m log (e ∷ chain) i unmoved =
-    let (first, rest) = or_parts (e.student == i) (is_moved chain i) unmoved in
-    ap (λ l. next_choice m l i) (sym (append_assoc log (e ∷ []) chain)) ∙ next-unmoved m (log ++ e ∷ []) chain i rest ∙ next-same m log e i (eqb-false e.student i first)
+-- The last student of the papers enters, by the ledgers of all others.
 
--- whoever has no choice left has none later
-none-weaker : (p q : ℕ → Bool) (xs : List ℕ) → ((x : ℕ) → p x ≡ false → q x ≡ false) → find p xs ≡ None → find q xs ≡ None
-none-weaker p q [] weaker none = refl
-none-weaker p q (x ∷ xs) weaker none = grind (arith, common_steps, none, weaker x, none-weaker p q xs weaker)
+-- the ledgers of the papers without the newcomer have the same labels
+labels-cut : (m : Market) (k : ℕ) (ledgers : List (List Label)) → labels_of (cut m k) ledgers ≡ labels_of m ledgers
+unfolding cut
+labels-cut m k ledgers = refl
 
-next-exhausted : (m : Market) (log chain : List Rejection) (i : ℕ) → next_choice m log i ≡ None → next_choice m (log ++ chain) i ≡ None
-unfolding next_choice
-next-exhausted m log chain i none =
-    none-weaker (λ s. not (is_rejected log i s)) (λ s. not (is_rejected (log ++ chain) i s)) (choices_of m i)
-    (λ s fails. not_from_true (is_rejected (log ++ chain) i s)
-    (list_any-append (λ (entry : Rejection). entry.student == i && entry.school == s) log chain
-    ∙ or_left (is_rejected log i s) (is_rejected chain i s) (not-false (is_rejected log i s) fails)))
-    none
+schools-cut : (m : Market) (k : ℕ) → (cut m k).schools ≡ m.schools
+unfolding cut
+schools-cut m k = refl
+
+pub ledgers-one_each : (m : Market) (k : ℕ) (segments : List (List Rejection)) (ledgers : List (List Label)) → AreLedgersOf (cut m k) segments ledgers → length ledgers ≡ length m.schools
+ledgers-one_each m k segments ledgers kept = kept.one_each ∙ ap (λ ss. length ss) (schools-cut m k)
+
+pub ledgers-whole : (m : Market) (k position : ℕ) (segments : List (List Rejection)) (ledgers : List (List Label)) → position ≡ k → AreLedgersOf (cut m k) segments ledgers → AreWhole (cohort (cut m position) everybody) segments (labels_of m ledgers)
+ledgers-whole m k position segments ledgers at kept =
+    subst (λ t. AreWhole (cohort (cut m t) everybody) segments (labels_of m ledgers)) (sym at)
+    (subst (AreWhole (cohort (cut m k) everybody) segments) (labels-cut m k ledgers) kept.whole)
 
 -- where a student stands of whom some have entered
-next-entered : (m : Market) (entered : ℕ → Bool) (log : List Rejection) (i : ℕ) → next_choice (restricted m entered) log i ≡ cond (entered i) (next_choice m log i) None
-next-entered m entered log i = grind (arith, common_steps, next-kept (restricted-restricts m entered) log i, next-dropped (restricted-restricts m entered) log i)
+next-entered : (m : Market) (entered : ℕ → Bool) (log : List Rejection) (j : ℕ) → next_choice (restricted m entered) log j ≡ cond (entered j) (next_choice m log j) None
+next-entered m entered log j = grind (arith, common_steps, next-kept (restricted-restricts m entered) log j, next-dropped (restricted-restricts m entered) log j)
 
-module _ (m : Market) (log chain : List Rejection) (old new : RoundView) (i made : ℕ) (continues : Continues m log old) (no_log : old.log ≡ []) (enters : EntersBy m old new i chain made) where
-  next-before : (j : ℕ) → next_of m old.ranks j ≡ cond (has_entered m old.ranks j) (next_choice m log j) None
-  next-before j =
-      sym (continues.next j) ∙ ap (λ l. next_choice (restricted m (has_entered m old.ranks)) l j) (ap (λ l. log ++ l) no_log ∙ append-nil log)
-      ∙ next-entered m (has_entered m old.ranks) log j
+-- all others stand where they stand in the papers without the last student
+next-others : (m : Market) (k i : ℕ) (log : List Rejection) (j : ℕ) → WellFormed m → length m.students ≡ k + 1 → slice_get (students_of m) k ≡ Some i → (i == j) ≡ false → next_choice m log j ≡ next_choice (cut m k) log j
+next-others m k i log j well last here other =
+    let first : (t : ℕ) → next_choice (cut m t) log j ≡ cond (is_among_first m t j) (next_choice m log j) None =
+    λ t. ap (λ p. next_choice p log j) (cut-restricted m t well) ∙ next-entered m (is_among_first m t) log j in
+    let same : is_among_first m (k + 1) j ≡ is_among_first m k j = first-more m k i j here ∙ ap (λ b. is_among_first m k j || b) other ∙ or-false (is_among_first m k j) in
+    ap (λ p. next_choice p log j) (sym (cut-all m (k + 1) (omega (arith, last, length-students m))))
+    ∙ first (k + 1) ∙ ap (λ b. cond b (next_choice m log j) None) same ∙ sym (first k)
 
-  next-after : (j : ℕ) → next_of m new.ranks j ≡ cond (has_entered m new.ranks j) (next_choice m (log ++ chain) j) None
-  next-after j =
-      sym ((enters.enters.continues log continues).next j) ∙ next-entered m (has_entered m new.ranks) (log ++ chain) j
+-- once the newcomer's chain has run, and whoever stands elsewhere has been given their place, everybody has theirs
+pub placed-entered : (m : Market) (k i : ℕ) (segments : List (List Rejection)) (chain : List Rejection) (labels : ℕ → List Label) (list : List Stance) (before given moved : List (ℕ × ℕ))
+    → WellFormed m → length m.students ≡ k + 1 → slice_get (students_of m) k ≡ Some i → HasEntered m i segments chain labels list → AreApart list → HavePlaces (cut m k) segments before
+    → ((j : ℕ) → assigned given j ≡ with_given list (assigned before) j) → ((j : ℕ) → assigned moved j ≡ with_replaced list (assigned given) j) → HavePlaces m (segments ++ chain ∷ []) moved
+placed-entered m k i segments chain labels list before given moved well last here entered apart stood were are j =
+    let (stands, stays) = replaced-places list (assigned before) (assigned given) (assigned moved) apart were are in
+    let now : assigned moved j ≡ next_choice m (joined segments ++ chain) j = elim (cases_Bool (is_aside list j)) [
+      | inl is ↦
+          let (x, stance, same) = aside-there list j is in
+          stands j x stance same ∙ sym (entered.stances.new x stance) ∙ ap (next_choice m (joined segments ++ chain)) same
+      | inr beside ↦
+          let absent = beside-absent list j beside in
+          let other : (i == j) ≡ false = false_from_ne_true (i == j) (λ is. false≢true (sym beside ∙ ap (is_aside list) (sym (eqb-true i j is)) ∙ entered.held)) in
+          stays j absent ∙ stood j ∙ sym (next-others m k i (joined segments) j well last here other) ∙ sym (entered.stances.alike j absent)
+    ] in
+    now ∙ ap (λ log. next_choice m log j) (sym (joined-push segments chain))
 
-  entered-before : (j : ℕ) → nat_eq j i ≡ false → has_entered m new.ranks j ≡ has_entered m old.ranks j
-  entered-before j other = enters.enters.entered j ∙ ap (λ b. has_entered m old.ranks j || b) other ∙ or-false (has_entered m old.ranks j)
+-- An amendment by which a student enters.
 
-  -- nobody else moves whom the chain does not name
-  pub others-unmoved : (j : ℕ) → nat_eq j i ≡ false → is_moved chain j ≡ false → next_of m new.ranks j ≡ next_of m old.ranks j
-  others-unmoved j other unmoved =
-      next-after j
-      ∙ (λ t. cond (entered-before j other t) (next-unmoved m log chain j unmoved t) None)
-      ∙ sym (next-before j)
+pub record IsEntry (a : Amendment) (i : ℕ) : Type 0 where
+  pub student : Student
+  pub after : (m : Market) → after m a ≡ with_student m i student
+  pub point : (m : Market) → rewind_point m a ≡ length m.students
+  pub amended : amended_student a ≡ Some i
 
-  -- and whoever stood nowhere stays without
-  pub others-exhausted : (j : ℕ) → nat_eq j i ≡ false → next_of m old.ranks j ≡ None → next_of m new.ranks j ≡ None
-  others-exhausted j other none = grind (arith, common_steps, none, next-after j, next-before j, entered-before j other, next-exhausted m log chain j)
+is-entry : (a : Amendment) (i : ℕ) → newcomer a ≡ Some i → IsEntry a i
+is-entry (Enter j zone siblings choices continuing) i is =
+    subst (IsEntry (Enter j zone siblings choices continuing)) (same_Some j i is) (record {
+      student = record { zone = zone; siblings = siblings; choices = choices; continuing = continuing };
+      after = λ m. refl;
+      point = λ m. refl;
+      amended = refl;
+    })
+is-entry _ i is = absurd (none-some i is)
 
-  -- so everybody has the school at which they stand: the newcomer is given theirs, and those who are moved get theirs
-  pub places-follow : (before given after : List (ℕ × ℕ))
-      → ((j : ℕ) → assigned before j ≡ next_of m old.ranks j)
-      → ((j : ℕ) → assigned given j ≡ cond (nat_eq j i) (next_of m new.ranks i) (assigned before j))
-      → ((j : ℕ) → assigned after j ≡ cond (is_moved chain j && is_some (assigned given j)) (next_of m new.ranks j) (assigned given j))
-      → (j : ℕ) → assigned after j ≡ next_of m new.ranks j
-  places-follow before given after stood gave moved j = grind (arith, nat_tests, common_steps, stood j, gave j, moved j, others-unmoved j, others-exhausted j)
+-- the papers without the newcomer
+cut-grown : (m : Market) (i : ℕ) (student : Student) → cut (with_student m i student) (length m.students) ≡ m
+unfolding cut
+cut-grown m i student = λ t. record m { students = (take-append-le (length m.students) m.students ((i, student) ∷ []) (omega arith) ∙ take_all (length m.students) m.students (omega arith)) t }
 
--- the places as the loop over the chain moves their students
-abbrev pub MovesFirst : (ℕ → Option ℕ) → List Rejection → List (ℕ × ℕ) → List (ℕ × ℕ) → Type 0
-MovesFirst goes log before after = (j : ℕ) → assigned after j ≡ cond (is_moved log j && is_some (assigned before j)) (goes j) (assigned before j)
+-- A standing before and after a newcomer.
 
--- a round that forgets its log has forgotten the newcomer's chain
-pub enters-by : (m : Market) (old middle new : RoundView) (i : ℕ) → Enters m old middle i → new ≡ without_log middle → EntersBy m old new i middle.log middle.proposals
-enters-by m old middle new i enters forgotten =
-    subst (λ r. EntersBy m old r i middle.log middle.proposals) (sym forgotten) (record { enters = enters; no_log = refl; no_proposals = refl })
+-- papers have a newcomer by an amendment: the standing is that of the papers before
+pub record Admits (m n : Market) (a : Amendment) (i : ℕ) (chains : List Chain) (before : List (ℕ × ℕ)) (proposals : ℕ) : Type 0 where
+  pub entry : newcomer a ≡ Some i
+  pub allowed : verdict m a ≡ None
+  pub grown : n ≡ after m a
+  pub sound : IsCertified (standing_of m before chains proposals)
+  pub own : students_in chains ≡ students_of m
 
--- and everybody has the school at which they stand in it
-pub placed-after : (m : Market) (log : List Rejection) (old middle new : RoundView) (i : ℕ) (before given after : List (ℕ × ℕ)) → Continues m log old → old.log ≡ [] → Enters m old middle i → new ≡ without_log middle
-    → ((j : ℕ) → assigned before j ≡ next_of m old.ranks j)
-    → ((j : ℕ) → assigned given j ≡ cond (nat_eq j i) (next_of m middle.ranks i) (assigned before j))
-    → ((j : ℕ) → assigned after j ≡ cond (is_moved middle.log j && is_some (assigned given j)) (next_of m middle.ranks j) (assigned given j))
-    → (j : ℕ) → assigned after j ≡ next_of m new.ranks j
-placed-after m log old middle new i before given after continues no_log enters forgotten stood gave moved j =
-    places-follow m log middle.log old (without_log middle) i middle.proposals continues no_log (enters-by m old middle (without_log middle) i enters refl) before given after stood gave moved j
-    ∙ ap (λ (r : RoundView). next_of m r.ranks j) (sym forgotten)
+-- the newcomer has entered by a chain, which is put at the end, and by which the ledgers and the places are now
+pub record HasCome (n : Market) (i : ℕ) (chains new : List Chain) (given : List (ℕ × ℕ)) (ledgers : List (List Label)) : Type 0 where
+  pub chain : List Rejection
+  pub pushed : new ≡ with_chain chains i chain
+  pub kept : AreLedgersOf n (logs_in new) ledgers
+  pub placed : HavePlaces n (logs_in new) given
 
--- What a newcomer's settling comes to: the new standing is certified, all outside the region have what they had, and the proposals are counted.
-
--- a count falls into those who pass another test and those who do not
-count-parts : (test p : ℕ → Bool) (xs : List ℕ) → count_by p xs ≡ count_by (λ i. test i && p i) xs + count_by (λ i. not (test i) && p i) xs
-count-parts test p xs =
-    sum-agree (λ i. cond (p i) 1 0) (λ i. cond (test i && p i) 1 0 + cond (not (test i) && p i) 1 0) xs (λ i among. grind (arith, common_steps))
-    ∙ sum-add (λ i. cond (test i && p i) 1 0) (λ i. cond (not (test i) && p i) 1 0) xs
-
-how_many-parts : (m : Market) (test p : ℕ → Bool) → how_many m p ≡ how_many m (λ i. test i && p i) + how_many m (λ i. outside test i && p i)
-unfolding how_many
-how_many-parts m test p = count-parts test p (students_of m)
-
--- who is there when one more student enters
-entered-any : (m n : Market) (i : ℕ) → students_of n ≡ students_of m ++ i ∷ [] → (j : ℕ) → is_student n j ≡ (is_student m j || list_any (nat_eq j) (i ∷ []))
-entered-any m n i more j =
-    is_some-lookup (nat_eq j) n.students ∙ ap (list_any (nat_eq j)) more ∙ list_any-append (nat_eq j) (students_of m) (i ∷ [])
-    ∙ ap (λ b. b || list_any (nat_eq j) (i ∷ [])) (sym (is_some-lookup (nat_eq j) m.students))
-
-stays-there : (m n : Market) (i : ℕ) → students_of n ≡ students_of m ++ i ∷ [] → (j : ℕ) → is_student m j ≡ true → is_student n j ≡ true
-stays-there m n i more j there = entered-any m n i more j ∙ or_left (is_student m j) (list_any (nat_eq j) (i ∷ [])) there
-
-newcomer-there : (m n : Market) (i : ℕ) → students_of n ≡ students_of m ++ i ∷ [] → is_student n i ≡ true
-newcomer-there m n i more =
-    entered-any m n i more i ∙ or_right (is_student m i) (list_any (nat_eq i) (i ∷ [])) (or_left (nat_eq i i) false (eq-eqb i i refl))
-
--- the region of an entry is among the students then there
-region-among : (m : Market) (a : Amendment) (i : ℕ) → IsEntry a i → students_of (after m a) ≡ students_of m ++ i ∷ [] → (j : ℕ) → InRegion m a j → Contains (students_of (after m a)) j
-region-among m a i entry more _ (amended j is) =
-    subst (Contains (students_of (after m a))) (same_Some i j (sym entry.amended ∙ is)) (student-among (after m a) i (newcomer-there m (after m a) i more))
-region-among m a i entry more _ (concerned j s is lists) = absurd (none-some s (sym entry.no_school ∙ is))
-region-among m a i entry more _ (next j other s inside first (inl before)) =
-    student-among (after m a) j (stays-there m (after m a) i more j (among-student m j (lister-among m j s before)))
-region-among m a i entry more _ (next j other s inside first (inr later)) = lister-among (after m a) j s later
-
--- A clearing before and after a newcomer, and after one who found no memory.
-
--- what a round knows of a roll
-abbrev pub keys : RollView → List Key
-keys roll = roll.keys
-
-abbrev pub seats : RollView → ℕ
-seats roll = roll.seats
-
-module _ (m n : Market) (a : Amendment) (i : ℕ) (chains : List Chain) (before : List (ℕ × ℕ)) (proposals : ℕ) (entry : newcomer a ≡ Some i) (allowed : verdict m a ≡ None) (grown : n ≡ after m a)
-    (sound : IsCertified (record { papers = m; places = before; segments = logs_in chains; proposals = proposals })) (own : students_in chains ≡ students_of m) where
-  well : WellFormed n
-  well = subst WellFormed (sym grown) (WellFormed-after m a sound.well_formed allowed)
-
+module _ {m n : Market} {a : Amendment} {i : ℕ} {chains : List Chain} {before : List (ℕ × ℕ)} {proposals : ℕ} (admits : Admits m n a i chains before proposals) where
   entering : IsEntry a i
-  entering = is-entry a i entry
+  entering = is-entry a i admits.entry
 
-  -- it is the newcomer's turn
-  pub admitted-next : IsNextToEnter n chains before i
-  admitted-next = next-to-enter m n i entering.student chains before (grown ∙ entering.after m) well own sound.segmented sound.matching
+  well : WellFormed n
+  well = subst WellFormed (sym admits.grown) (WellFormed-after m a admits.sound.well_formed admits.allowed)
 
-  -- the round that is kept is still that in which everybody else stands
-  pub kept-grown : (round : Option (Round RollView)) → IfSome round (IsKept m chains) → IfSome round (IsKept n chains)
-  kept-grown None kept = tt
-  kept-grown (Some round) kept = (
-    kept.0,
-    stands-grown m n i entering.student chains (view_of keys seats round) (grown ∙ entering.after m) well (entering.may m allowed) kept.1,
-  )
+  many : length chains ≡ length m.students
+  many = sym (length-map chains (λ (c : Chain). c.student)) ∙ ap (λ (xs : List ℕ). length xs) admits.own ∙ length-students m
 
-  -- what a newcomer's settling comes to: the new standing is certified, all outside the region have what they had, and the
-  -- proposals are counted
-  module _ (new : List Chain) (given : List (ℕ × ℕ)) (made : ℕ) (r : RoundView) (has : HasEntered n chains new given r i made) where
-    abbrev chain : List Rejection
-    chain = has.chain
+  more : students_of n ≡ students_of m ++ i ∷ []
+  more = ap students_of (admits.grown ∙ entering.after m) ∙ map-append (λ (e : ℕ × Student). e.0) m.students ((i, entering.student) ∷ [])
 
-    abbrev new_standing : Standing
-    new_standing = record { papers = n; places = given; segments = logs_in new; proposals = made }
+  part : m ≡ cut n (length chains)
+  part = sym (ap (λ p. cut p (length chains)) (admits.grown ∙ entering.after m) ∙ ap (cut (with_student m i entering.student)) many ∙ cut-grown m i entering.student)
 
-    more : students_of n ≡ students_of m ++ i ∷ []
-    more = ap students_of (grown ∙ entering.after m) ∙ students-grown m i entering.student
+  there : slice_get (students_of n) (length chains) ≡ Some i
+  there = (λ t. slice_get (more t) ((many ∙ sym (length-students m)) t)) ∙ seam-there (students_of m) i []
 
-    all-chains : length chains + 1 ≡ length n.students
-    all-chains =
-        omega (
-          arith,
-          length-map chains (λ (c : Chain). c.student),
-          ap (λ (xs : List ℕ). length xs) own,
-          ap (λ (xs : List ℕ). length xs) more,
-          length-append (students_of m) (i ∷ []),
-          length-students n,
-        )
+  -- all others have the places that the log gives them, and the newcomer is the last one
+  pub admitted-placed : HavePlaces (cut n (length chains)) (logs_in chains) before
+  admitted-placed j = admits.sound.matching j ∙ ap (λ p. next_choice p (joined (logs_in chains)) j) part
 
-    on : GoesOn n (logs_in chains) (with_log r chain made) (students_in new) (logs_in new) (length n.students)
-    on =
-        subst (GoesOn n (logs_in chains) (with_log r chain made) (students_in new) (logs_in new)) all-chains (goes-on-entered n i made chains new before given r admitted-next has)
+  pub admitted-last : length n.students ≡ length chains + 1
+  admitted-last = omega (arith, many, length-students m, length-students n, ap (λ (xs : List ℕ). length xs) more, length-append (students_of m) (i ∷ []))
 
-    pub newcomer-certified : IsCertified (record { papers = n; places = given; segments = logs_in new; proposals = made })
-    newcomer-certified =
-        certified-of n given (logs_in new) made on.fits.well_formed
-        (segments-all n (logs_in chains) (with_log r chain made) (students_in new) (logs_in new) on)
-        (λ j. has.placed j ∙ next-all n (logs_in chains) (with_log r chain made) (students_in new) (logs_in new) on j)
+  -- the ledgers are still those of all others
+  pub admitted-ledgers : (ledgers : List (List Label)) → AreLedgersOf m (logs_in chains) ledgers → AreLedgersOf (cut n (length chains)) (logs_in chains) ledgers
+  admitted-ledgers ledgers = subst (λ p. AreLedgersOf p (logs_in chains) ledgers) part
 
-    kept-length : length (logs_in chains) ≡ length m.students
-    kept-length = sound.segmented.one_each ∙ length-students m
+  -- once the newcomer has entered
+  module _ {new : List Chain} {given : List (ℕ × ℕ)} {ledgers : List (List Label)} (come : HasCome n i chains new given ledgers) where
+    logs : logs_in new ≡ logs_in chains ++ come.chain ∷ []
+    logs = ap logs_in come.pushed ∙ logs-push chains i come.chain
 
-    first-kept : take (length m.students) (logs_in new) ≡ logs_in chains
-    first-kept = ap (λ k. take k (logs_in new)) (sym kept-length) ∙ on.stays
+    pub admitted-run : IsSegmented n (logs_in new)
+    admitted-run = run-segments (cohort n everybody) (logs_in new) well (λ j. refl) come.kept.whole.run
 
-    pub newcomer-stays : take (rewind_point m a) (logs_in new) ≡ take (rewind_point m a) (logs_in chains)
-    newcomer-stays =
-        ap (λ k. take k (logs_in new)) (entering.point m) ∙ first-kept
-        ∙ sym (ap (λ k. take k (logs_in chains)) (entering.point m) ∙ take_all (length m.students) (logs_in chains) (omega (arith, kept-length)))
+    pub admitted-theirs : students_in new ≡ students_of n
+    admitted-theirs = ap students_in come.pushed ∙ students-push chains i come.chain ∙ ap (λ xs. xs ++ i ∷ []) admits.own ∙ sym more
+
+    certified : (made : ℕ) → IsCertified (standing_of n given new made)
+    certified made = certified-of n given (logs_in new) made well admitted-run come.placed
+
+    -- all others keep their segments
+    first-kept : take (length chains) (logs_in new) ≡ take (length chains) (logs_in chains)
+    first-kept = ap (take (length chains)) logs ∙ take-append-le (length chains) (logs_in chains) (come.chain ∷ []) (omega (arith, length-map chains (λ (c : Chain). c.rejections)))
+
+    at : length chains ≡ rewind_point m a
+    at = many ∙ sym (entering.point m)
 
     -- outside the region everybody has what they had
-    same-outside : (test : ℕ → Bool) → TellsRegion m a test → (j : ℕ) → test j ≡ false → assigned given j ≡ assigned before j
-    same-outside test tells j fails =
-        let changes = changes-inside m a test sound.well_formed allowed tells in
-        sym (optimal-outside m (after m a) test (assigned before) (assigned given) sound.well_formed changes.well_formed changes.apart_before changes.apart changes.outside
-        sound.optimal (subst (λ p. IsStudentOptimal p (assigned given)) grown newcomer-certified.optimal) j fails)
+    others : (made : ℕ) → KeepsOthers (standing_of m before chains proposals) a (standing_of n given new made)
+    others made =
+        let well_before = admits.sound.well_formed in
+        let region = region_members m a in
+        let tells = list-tells m a region (region-exact m a well_before admits.allowed) in
+        keeps-others (standing_of m before chains proposals) (standing_of n given new made) a region tells admits.grown (λ j fails.
+        sym (optimal-outside m (after m a) (is_among region) (assigned before) (assigned given) well_before (WellFormed-after m a well_before admits.allowed)
+        (region-apart m a (is_among region) tells) (region-apart_after m a (is_among region) tells) (region-alike m a (is_among region) tells)
+        admits.sound.optimal (subst (λ p. IsStudentOptimal p (assigned given)) admits.grown (certified made).optimal) j fails))
 
-    pub newcomer-others : KeepsOthers (record { papers = m; places = before; segments = logs_in chains; proposals = proposals }) a (record { papers = n; places = given; segments = logs_in new; proposals = made })
-    newcomer-others j there out = (
-      stays-there m n i more j there,
-      same-if_told (InRegion m a) (students_of (after m a)) (assigned given j) (assigned before j)
-          (region-among m a i entering (ap students_of (sym grown) ∙ more))
-          (λ test tells. same-outside test tells j (false_from_ne_true (test j) (λ inside. out ((tells j).0 inside)))),
-    )
+    -- the newcomer's turn is the only one that is counted
+    one-turn : (test : ℕ → Bool) → test i ≡ true → AreTurnsOf n test (length chains) (length (logs_in new)) (length chains ∷ [])
+    one-turn test passes =
+        let end : length (logs_in new) ≡ length chains + 1 = omega (arith, admitted-run.one_each, admitted-last, length-students n) in (
+          omega arith,
+          omega (arith, end),
+          λ t j from below here. absurd (omega (arith, from, below)),
+          ap test (get_or_from_slice_get (students_of n) (length chains) i 0 there) ∙ passes,
+          λ t j from below here. absurd (omega (arith, from, below, end)),
+        )
 
-    -- what the log of those before gave everybody
-    abbrev gave : Matching
-    gave = matching_of (cut n (length m.students)) (joined (logs_in chains))
+    counts : (made : ℕ) → made ≡ made_at n (logs_in new) (length chains ∷ []) → CountsRegion m a (standing_of n given new made)
+    counts made counted test tells =
+        let apart = subst (λ p. whole.AreApart p test) (sym admits.grown) (region-apart_after m a test tells) in
+        let turns = one-turn test ((tells i).1 (amended i entering.amended)) in
+        let inside = made-inside n test (logs_in new) (length chains) (length chains ∷ []) well apart admitted-run (omega (arith, turns.1)) turns in
+        let places : placed_of n test (matching_of n (joined (logs_in new))) ≡ placed_of n test (assigned given) = ap (placed_of n test) (λ t j. (sym (come.placed j)) t) in
+        subst (λ k. CountsInside test k (standing_of n given new made)) at (omega (arith, counted, inside, places))
 
-    gave-before : (j : ℕ) → gave j ≡ assigned before j
-    gave-before j =
-        ap (λ p. next_choice p (joined (logs_in chains)) j)
-        (ap (λ p. cut p (length m.students)) (grown ∙ entering.after m) ∙ cut-grown m i entering.student)
-        ∙ sym (sound.matching j)
-
-    same-placed : (test : ℕ → Bool) → TellsRegion m a test → (j : ℕ) → (not (test j) && is_some (gave j)) ≡ (not (test j) && is_some (assigned given j))
-    same-placed test tells j = grind (arith, common_steps, gave-before j, same-outside test tells j)
-
-    -- of the segments from the newcomer's on, theirs is the only one
-    own-segment : (test : ℕ → Bool) → test i ≡ true → joined (part_of (drop (length m.students) (students_of n)) test (drop (length m.students) (logs_in new))) ≡ chain
-    own-segment test passes =
-        let students : drop (length m.students) (students_of n) ≡ i ∷ [] =
-        ap (drop (length m.students)) more ∙ drop-append-le (length m.students) (students_of m) (i ∷ []) (omega (arith, length-students m))
-        ∙ ap (λ xs. xs ++ i ∷ []) (drop_all (length m.students) (students_of m) (omega (arith, length-students m))) in
-        let segments : drop (length m.students) (logs_in new) ≡ chain ∷ [] =
-        ap (drop (length m.students)) (ap logs_in has.pushed ∙ map-append (λ (c : Chain). c.rejections) chains (record { student = i; rejections = chain } ∷ []))
-        ∙ drop-append-le (length m.students) (logs_in chains) (chain ∷ []) (omega (arith, kept-length))
-        ∙ ap (λ ls. ls ++ chain ∷ []) (drop_all (length m.students) (logs_in chains) (omega (arith, kept-length))) in
-        (λ t. joined (part_of (students t) test (segments t)))
-        ∙ ap joined (cond-true (test i) (chain ∷ []) [] passes)
-        ∙ append-nil chain
-
-    pub newcomer-counts : CountsRegion m a (record { papers = n; places = given; segments = logs_in new; proposals = made })
-    newcomer-counts test tells =
-        let first : placed_first n (length (logs_in chains)) (joined (logs_in chains)) ≡ placed n gave = ap (λ k. placed_first n k (joined (logs_in chains))) kept-length in
-        let before_parts : placed n gave ≡ placed_of n test gave + placed_of n (outside test) gave = how_many-parts n test (λ j. is_some (gave j)) in
-        let after_parts : placed n (assigned given) ≡ placed_of n test (assigned given) + placed_of n (outside test) (assigned given) = how_many-parts n test (λ j. is_some (assigned given j)) in
-        let rest : placed_of n (outside test) gave ≡ placed_of n (outside test) (assigned given) =
-        how_many-agree n (λ j. not (test j) && is_some (gave j)) (λ j. not (test j) && is_some (assigned given j)) (same-placed test tells) in
-        let inside : placed_of n test (matching_of (cut n (length m.students)) (joined (take (length m.students) (logs_in new)))) ≡ placed_of n test gave =
-        ap (λ ls. placed_of n test (matching_of (cut n (length m.students)) (joined ls))) first-kept in
-        let segment = ap (λ (l : List Rejection). length l) (own-segment test ((tells i).1 (amended i entering.amended))) in
-        subst (λ k. CountsInside test k new_standing) (sym (entering.point m))
-        (omega (arith, on.counted, first, before_parts, after_parts, rest, inside, segment, how_many-agree n (λ j. is_some (next_of n r.ranks j)) (λ j. is_some (assigned given j)) (λ j. ap is_some (sym (has.placed j)))))
-
-  -- what the newcomer's settling leaves
-  pub record Admitted (new : List Chain) (given : List (ℕ × ℕ)) (made : ℕ) (kept : Option (Round RollView)) : Type 0 where
-    pub amended : IsAmended {E = AllocError} (Ok tt) (standing_of m before chains proposals) a (standing_of n given new made)
-    pub theirs : students_in new ≡ students_of n
-    pub round : IfSome kept (IsKept n new)
-
-  pub admitted : (new : List Chain) (given : List (ℕ × ℕ)) (made : ℕ) (round : Option (Round RollView))
-      → IsSomeAnd round (λ r. (is_spent r ≡ false) × HasEntered n chains new given (view_of keys seats r) i made)
-      → Admitted new given made round
-  admitted new given made None has = absurd has
-  admitted new given made (Some round) has =
-      let r : RoundView = view_of keys seats round in
-      record {
-        amended = record {
-          certified = newcomer-certified new given made r has.1;
-          accepted = grown;
-          stays = newcomer-stays new given made r has.1;
-          others = newcomer-others new given made r has.1;
-          proposals = newcomer-counts new given made r has.1;
-          unchanged = tt;
-        };
-        theirs = students-all n (logs_in chains) _ (students_in new) (logs_in new) (on new given made r has.1);
-        round = (has.0, stands-entered n i made (length n.students) chains new given r has.1 (on new given made r has.1));
-      }
+    pub admitted : (made : ℕ) → made ≡ made_at n (logs_in new) (length chains ∷ []) → IsAmended {E = AllocError} (Ok tt) (standing_of m before chains proposals) a (standing_of n given new made)
+    admitted made counted = record {
+      certified = certified made;
+      accepted = admits.grown;
+      stays = subst (λ k. take k (logs_in new) ≡ take k (logs_in chains)) at first-kept;
+      others = others made;
+      proposals = counts made counted;
+      unchanged = tt;
+    }
 
 -- a standing whose parts are what they were
 pub same-standing : {m p : Market} {chains same : List Chain} {before given : List (ℕ × ℕ)} → p ≡ m → given ≡ before → same ≡ chains → (proposals : ℕ) → standing_of p given same proposals ≡ standing_of m before chains proposals

@@ -4,8 +4,8 @@ pub mod Rewinding
 pub mod Resumption
 pub mod Locality
 pub mod Changed
-pub mod Rejoining
 pub mod Stamped
-pub mod Placing
 pub mod Places
 pub mod Turns
+pub mod Anew
+pub mod Replacing

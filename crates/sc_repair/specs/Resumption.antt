@@ -1,26 +1,33 @@
--- A settling in the course of which some segments are kept: none in an opening, all others' where somebody enters.
-use Rattle.std.specs.Prelude.{◌≡◌, ℕ, ◌+◌, nat_eq, List, ◌++◌, length, take}
+-- An opening: the students enter one after the other, in order of entry.
+use Rattle.std.specs.Prelude.{◌≡◌, ℕ, ◌+◌, true, false, nat_eq, List, [], length, take}
 use Rattle.std.specs.List.{list_any}
-use Rattle.sc_papers.specs.Log.{matching_of}
-use Rattle.sc_papers.specs.Market.{Market, students_of}
-use Rattle.sc_papers.specs.Progress.{placed}
+use Rattle.sc_papers.specs.Market.{Market, is_student, students_of}
 use Rattle.sc_papers.specs.Restriction.{cut, joined, IsSegmented}
+use Rattle.sc_papers.specs.declared.key.Key.{Key}
 use Rattle.sc_papers.specs.declared.rejection.Rejection.{Rejection}
-use Rattle.sc_engine.specs.RoundView.{RoundView, has_entered, nobody, standing_but, Continues, Fits}
+use Rattle.sc_engine.specs.Round.{is_spent, view_of}
+use Rattle.sc_engine.specs.RoundView.{RoundView, has_entered, nobody, standing_but, Continues, Enters, Fits}
+use Rattle.sc_engine.specs.declared.round.Round.{Round}
 
--- how many of the first k students a log places
-abbrev pub placed_first : Market → ℕ → List Rejection → ℕ
-placed_first m k log = placed m (matching_of (cut m k) log)
-
--- in the course of a settling that keeps some segments: the first k students, in order of entry, and they
--- alone have entered, the segments are theirs, and every proposal ended in an entry of the round's log
--- or in a place, beside those places that there were
-pub record GoesOn (m : Market) (kept : List (List Rejection)) (r : RoundView) (students : List ℕ) (segments : List (List Rejection)) (k : ℕ) : Type 0 where
+-- in its course the first k students, and they alone, have entered, the segments are theirs, and every proposal ended in an entry of the
+-- round's log or in a place
+pub record GoesOn (m : Market) (r : RoundView) (students : List ℕ) (segments : List (List Rejection)) (k : ℕ) : Type 0 where
   pub fits : Fits m r
   pub entered : (i : ℕ) → has_entered m r.ranks i ≡ list_any (nat_eq i) (take k (students_of m))
-  pub continues : Continues m (joined kept) r
+  pub continues : Continues m [] r
   pub theirs : students ≡ take k (students_of m)
   pub segmented : IsSegmented (cut m k) segments
-  pub stays : take (length kept) segments ≡ kept
-  pub log : joined segments ≡ joined kept ++ r.log
-  pub counted : r.proposals + placed_first m (length kept) (joined kept) ≡ length r.log + standing_but m r.ranks nobody
+  pub log : joined segments ≡ r.log
+  pub counted : r.proposals ≡ length r.log + standing_but m r.ranks nobody
+
+-- a student of the papers may enter a round of them that can go on, where they have not entered yet
+pub record MayComeIn {R : Type 0} (keys : R → List Key) (seats : R → ℕ) (m : Market) (round : Round R) (i : ℕ) : Type 0 where
+  pub ready : is_spent round ≡ false
+  pub fits : Fits m (view_of keys seats round)
+  pub student : is_student m i ≡ true
+  pub absent : has_entered m (view_of keys seats round).ranks i ≡ false
+
+-- they have entered, and the round can go on
+pub record HasComeIn {R : Type 0} (keys : R → List Key) (seats : R → ℕ) (m : Market) (old new : Round R) (i : ℕ) : Type 0 where
+  pub ready : is_spent new ≡ false
+  pub enters : Enters m (view_of keys seats old) (view_of keys seats new) i

@@ -75,8 +75,7 @@ impl Clearing {
             places: placed.places,
             segments: placed.segments,
             proposals: placed.proposals,
-            round: Some(placed.round),
-            spare: None,
+            ledgers: None,
             districts: None,
         };
         Ok(Clearing { settlement, stamps })
@@ -226,20 +225,19 @@ impl Clearing {
     /// Whoever is not in the region (`sc_region::region`) keeps their place and their segment, and the
     /// segments of the students before the rewind point stay.
     ///
-    /// An `Enter` costs its `check` and an offer for each proposal of the newcomer's chain, however many students
-    /// there are, but for a table that grows now and then. It changes what stands in place, and takes that
-    /// back where a growth is refused. The first `Enter` after a withdrawal whose region is everybody, or after
-    /// a refused growth, also costs an offer for each student and a look at each entry of the log, by which everybody is
-    /// put back where they stand.
+    /// An `Enter` costs its `check` and for each proposal of the newcomer's chain a look at the ledger of the school, however many
+    /// students there are, but for a table that grows now and then. It changes what stands in place, and takes that back where a growth
+    /// is refused.
     ///
-    /// Any other amendment costs that of finding the region, the looks of a round at the papers, a look at each
-    /// segment of the region's students before the rewind point, an offer for each proposal of the others, and a few looks
-    /// at the row of each, by which they leave the round in which everybody stands and come back to it; a
-    /// withdrawal also moves up whoever stands behind the student in the order of entry. Nothing of those outside the
-    /// region is copied or passed over. The region's new segments are made whole beside the old ones before they take their
-    /// place, and papers that have changed by then go back where a growth is refused, so nothing is left half done.
-    /// A refused amendment costs its `check` alone. The stamps take a look-up, and those behind a student who
-    /// withdraws move up.
+    /// Any other amendment costs that of finding the region, a look at the segment of each of the region's students from the rewind point
+    /// on, and for each of them whose turn can differ a look at a ledger for each proposal of their old and their new chain; a withdrawal
+    /// also moves up whoever stands behind the student in the order of entry, and passes over all ledgers. Beside that it clears four
+    /// bytes for each student and one for each school. The new segments are made whole beside the old ones before they take their place,
+    /// and papers that have changed by then go back where a growth is refused, so nothing is left half done.
+    ///
+    /// The first amendment after an opening, and the first after a refused growth, also opens the ledgers: a look at each rejection of the
+    /// log, and a sort of the keys of each school. A refused amendment costs its `check` alone. The stamps take a look-up, and those behind
+    /// a student who withdraws move up.
     pub fn amend(&mut self, stamped: Stamped) -> Result<(), Refusal>
         ensures optimal { IsStudentOptimal (papers_after self.old.standing.papers stamped.amendment result)
             (matching_of self.new.standing) }

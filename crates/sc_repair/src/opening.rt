@@ -1,19 +1,17 @@
 //! Settling papers from scratch.
 
-ghost use Rattle.std.specs.Prelude.{◌≡◌, ℕ, ◌+◌, true, false, List, [], ◌++◌, length, IfOk, OnOk};
+ghost use Rattle.std.specs.Prelude.{◌≡◌, ◌+◌, List, [], ◌++◌, length, IfOk, OnOk};
 ghost use Rattle.sc_papers.specs.Assignment.{assigned};
-ghost use Rattle.sc_papers.specs.Log.{next_choice};
-ghost use Rattle.sc_papers.specs.Market.{is_student, students_of};
+ghost use Rattle.sc_papers.specs.Market.{students_of};
 ghost use Rattle.sc_papers.specs.Progress.{placed};
-ghost use Rattle.sc_papers.specs.Restriction.{joined, IsSegmented};
+ghost use Rattle.sc_papers.specs.Restriction.{joined};
 ghost use Rattle.sc_papers.specs.declared.rejection.Rejection.{Rejection};
 ghost use Rattle.sc_checkpoint.specs.Chains.{logs_in, students_in, with_chain};
 ghost use Rattle.sc_engine.specs.Fresh.{IsFresh};
-ghost use Rattle.sc_engine.specs.Round.{is_spent, view_of};
-ghost use Rattle.sc_engine.specs.RoundView.{has_entered, Enters, Fits};
-ghost use Rattle.sc_repair.specs.Changed.{StandsAfter};
-ghost use Rattle.sc_repair.specs.Rejoining.{HasComeIn, MayComeIn};
-ghost use Rattle.sc_repair.specs.Resumption.{GoesOn};
+ghost use Rattle.sc_engine.specs.Round.{view_of};
+ghost use Rattle.sc_repair.specs.Changed.{standing_of};
+ghost use Rattle.sc_repair.specs.Resumption.{GoesOn, HasComeIn, MayComeIn};
+ghost use Rattle.sc_repair.specs.Standing.{IsCertified};
 
 use crate::places::Places;
 use sc_checkpoint::Segments;
@@ -23,7 +21,7 @@ use sc_seats::Roll;
 use std::alloc::{AllocError, Global};
 
 /// Enters a student, who often stands at the guessed position, into a round, and puts the rejections of their chain at the end of the segments.
-pub(crate) fn enter_next<R: Roll>(
+fn enter_next<R: Roll>(
     round: &mut Round<R>,
     papers: &FlatPapers,
     segments: &mut Segments,
@@ -50,9 +48,8 @@ fn enter_all<R: Roll>(
 ) -> Result<(), AllocError>
     requires fresh { IsFresh R.keys R.seats papers.now round.old }
     requires none { segments.old ≡ [] }
-    ensures on { OnOk result (GoesOn papers.now [] (view_of R.keys R.seats round.new)
+    ensures { OnOk result (GoesOn papers.now (view_of R.keys R.seats round.new)
         (students_in segments.new) (logs_in segments.new) (length papers.now.students)) }
-    ensures ready { OnOk result (is_spent round.new ≡ false) }
 {
     for position in 0..papers.students_len() {
         let Some(student) = papers.student_at(position) else {
@@ -63,28 +60,21 @@ fn enter_all<R: Roll>(
     Ok(())
 }
 
-/// What a settling of papers comes to: the places, the segments, how many proposals it made, and the round in which everybody stands.
+/// What a settling of papers comes to: the places, the segments, and how many proposals it made.
 #[derive(Drop)]
-pub(crate) struct Opening<R: Roll> {
+pub(crate) struct Opening {
     pub(crate) places: Places,
     pub(crate) segments: Segments,
     pub(crate) proposals: u64,
-    pub(crate) round: Round<R>,
 }
 
 /// Settles papers: each student enters, in order of entry. The only error is want of memory.
 ///
-/// The round is kept for whoever enters next. The cost is an offer for each proposal.
-pub(crate) fn settle_all<R: Roll>(
-    alloc: Global,
-    papers: &FlatPapers,
-) -> Result<Opening<R>, AllocError>
+/// The cost is an offer for each proposal.
+pub(crate) fn settle_all<R: Roll>(alloc: Global, papers: &FlatPapers) -> Result<Opening, AllocError>
     ensures theirs { IfOk result (λ made. students_in made.segments ≡ students_of papers.now) }
-    ensures segmented { IfOk result (λ made. IsSegmented papers.now (logs_in made.segments)) }
-    ensures matching { IfOk result (λ made. (i : ℕ)
-        → assigned made.places i ≡ next_choice papers.now (joined (logs_in made.segments)) i) }
-    ensures stands { IfOk result (λ made. StandsAfter papers.now made.segments (view_of R.keys R.seats made.round)) }
-    ensures ready { IfOk result (λ made. is_spent made.round ≡ false) }
+    ensures certified { IfOk result (λ made. IsCertified
+        (standing_of papers.now made.places made.segments made.proposals)) }
     ensures proposals { IfOk result (λ made. made.proposals
         ≡ length (joined (logs_in made.segments)) + placed papers.now (assigned made.places)) }
 {
@@ -94,11 +84,9 @@ pub(crate) fn settle_all<R: Roll>(
     let assignment = round.assignment(papers)?;
     let places = Places::of(alloc, papers, assignment)?;
     let proposals = round.proposals();
-    round.forget_log();
     Ok(Opening {
         places,
         segments,
         proposals,
-        round,
     })
 }

@@ -17,8 +17,8 @@ pub(crate) struct Places {
     assignment: Assignment,
     // By the number of the school.
     counts: Vec<usize>,
-    /// Where the students' pairs may stand in the assignment, by their positions in the order of entry.
-    pub(crate) hints: PairHints,
+    // Where the students' pairs may stand in the assignment, by their positions in the order of entry.
+    hints: PairHints,
 }
 
 impl Drop for Places {
@@ -185,6 +185,13 @@ impl Places {
             prove!(self.assignment.len() <= usize::MAX);
             count_one(&mut self.counts, *to);
         }
+    }
+
+    /// The student at a position leaves the order of entry: whoever stands behind moves up by one. No place changes.
+    pub(crate) fn leave(&mut self, position: usize)
+        ensures { self.new ≡ self.old }
+    {
+        self.hints.leave(position);
     }
 
     /// Keeps the first pairs of the order, so many of them, and takes the others away. It takes no memory; the cost is

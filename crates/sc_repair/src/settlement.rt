@@ -7,10 +7,9 @@ mod withdraw;
 
 use crate::places::Places;
 use sc_checkpoint::Segments;
-use sc_engine::Round;
+use sc_ledgers::Ledger;
 use sc_papers::Papers;
 use sc_region::Districts;
-use sc_seats::HeapRoll;
 use std::alloc::Global;
 use std::marker::Model;
 
@@ -23,12 +22,9 @@ pub(crate) struct Settlement {
     pub(crate) places: Places,
     pub(crate) segments: Segments,
     pub(crate) proposals: u64,
-    // Where there is one, the round in which everybody stands: a newcomer goes on in it, and the students of a region
-    // leave it and come back. It is lost where a growth is refused and where a withdrawal settles everybody, and made
-    // again when it is wanted.
-    pub(crate) round: Option<Round<HeapRoll>>,
-    // Where there is one, a round that is done with, in whose memory the next amendment settles its region.
-    pub(crate) spare: Option<Round<HeapRoll>>,
+    // Where there are some, the ledgers of the log, by which an amendment takes turns anew and a newcomer enters. They are lost where a
+    // growth is refused, and opened when they are wanted.
+    pub(crate) ledgers: Option<Vec<Ledger>>,
     // Where there are some, the districts of the papers, from which the region of an amendment is found: they are
     // kept from amendment to amendment, and made again when they are wanted.
     pub(crate) districts: Option<Districts>,
@@ -42,8 +38,7 @@ impl Drop for Settlement {
             places: _,
             segments: _,
             proposals: _,
-            round: _,
-            spare: _,
+            ledgers: _,
             districts: _,
         } = self;
     }

@@ -170,8 +170,8 @@ pub(super) fn resume_with_the_third<R: Roll>(
     round.into_settled(papers)
 }
 
-/// Does so in the memory of a round that is done with, where nobody is found by a guess at where they or their choices stand.
-fn resume_again_with_the_third<R: Roll>(
+/// Does so, where the third student is not found by a guess at where they stand.
+fn resume_with_a_wrong_guess<R: Roll>(
     alloc: Global,
     papers: &FlatPapers,
 ) -> Result<Settled, AllocError> {
@@ -183,19 +183,17 @@ fn resume_again_with_the_third<R: Roll>(
         return Err(AllocError);
     };
     let next_choices = first_two_stand::<R>(alloc, papers, one, two)?;
-    let mut done: Round<R> = Round::start(alloc, papers)?;
-    done.enter_one(papers, three)?;
-    let mut round = done.resume_in(papers, &next_choices, &[1, 2], &[19, 1])?;
+    let mut round: Round<R> = Round::resume(alloc, papers, &next_choices)?;
     round.enter_near(papers, three, 1)?;
     round.into_settled(papers)
 }
 
 #[test]
-fn a_newcomer_to_a_round_in_old_memory(rt: HostRuntime) {
+fn a_newcomer_who_stands_elsewhere_than_was_guessed(rt: HostRuntime) {
     let papers = papers_of(&rt, rt.alloc(), MARKET_B_AND_NEWCOMER);
     let want = "(1,10)(2,20)(2,10) 3: 1 at 20 3 at 10";
-    let sorted = resume_again_with_the_third::<SortedRoll>(rt.alloc(), &papers);
-    let heap = resume_again_with_the_third::<HeapRoll>(rt.alloc(), &papers);
+    let sorted = resume_with_a_wrong_guess::<SortedRoll>(rt.alloc(), &papers);
+    let heap = resume_with_a_wrong_guess::<HeapRoll>(rt.alloc(), &papers);
     expect_both(&rt, rt.alloc(), sorted, heap, want);
 }
 

@@ -159,7 +159,7 @@ impl<R: Roll> Round<R> {
             (view_of R.keys R.seats self.new) (student_at papers.now at)) }
     {
         self.ranks.make_room(at)?;
-        self.ranks.put(at, 0)?;
+        self.ranks.put(at, 0);
         self.chain(papers, at)?;
         Ok(())
     }

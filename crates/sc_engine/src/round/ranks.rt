@@ -91,19 +91,6 @@ pub(super) fn next_in(
     choice_at(ranks, papers, papers.student_position(student)?)
 }
 
-/// The choice at which the student stands, who often is at the guessed position: then no number is looked up.
-#[tactic(auto, using(crate::proofs::Tables::next_nowhere))]
-pub(super) fn next_near(
-    ranks: &[Option<u8>],
-    papers: &FlatPapers,
-    student: StudentNo,
-    guess: usize,
-) -> Option<SchoolNo>
-    ensures { result ≡ next_of papers.now ranks.now student }
-{
-    choice_at(ranks, papers, papers.student_position_near(student, guess)?)
-}
-
 /// The position of a student of the papers, who often stands at the guess: then no number is looked up.
 pub(super) fn position_near(papers: &FlatPapers, student: StudentNo, guess: usize) -> usize
     requires { is_student papers.now student ≡ true }

@@ -14,16 +14,13 @@ use sc_seats::{HeldKey, Roll};
 use std::alloc::{AllocError, Global};
 
 /// The rank of the school among the choices of the student at the position, or a rank after the last where there is no
-/// school. Often it is the guessed one, and then one choice alone is looked at. The student's row is read, and no record.
-fn rank_in(papers: &FlatPapers, at: usize, school: Option<SchoolNo>, guess: usize) -> usize
+/// school. The student's row is read, and no record.
+fn rank_in(papers: &FlatPapers, at: usize, school: Option<SchoolNo>) -> usize
     requires student { at < length papers.now.students }
     requires listed { IfSome school (λ s. Contains (choices_of papers.now (student_at papers.now at)) s) }
     ensures rank { slice_get (choices_of papers.now (student_at papers.now at)) result ≡ school }
     ensures within { result ≤ LONGEST_LIST }
 {
-    if guess <= LONGEST_LIST && papers.choice_at(at, guess) == school {
-        return guess;
-    }
     // This call tells that the choices are few enough.
     prove!(papers.students_len() <= MOST_STUDENTS);
     let Some(school) = school else {
@@ -35,29 +32,13 @@ fn rank_in(papers: &FlatPapers, at: usize, school: Option<SchoolNo>, guess: usiz
     rank
 }
 
-/// What is told of one of the next choices, if anything is, and else this.
-fn guess_of(told: &[usize], turn: usize, otherwise: usize) -> usize {
-    told.get(turn).copied().unwrap_or(otherwise)
-}
-
-/// At which rank of their list the student of one of the next choices may stand: the first, where nothing is told.
-fn rank_guess_of(told: &[u8], turn: usize) -> usize {
-    told.get(turn).copied().map_or(0, usize::from)
-}
-
 impl<R: Roll> Round<R> {
     ghost use Rattle.sc_engine.specs.Fresh.{CanResume, CanTakeAll, IsResumed};
     ghost use Rattle.sc_engine.specs.Round.{view_of, is_spent};
 
     /// Puts the student at their next choice, and on the roll of that school, which has room. That is no
     /// proposal: it was made before.
-    fn put(
-        &mut self,
-        papers: &FlatPapers,
-        choice: Standing,
-        position_guess: usize,
-        rank_guess: usize,
-    ) -> Result<(), AllocError>
+    fn put(&mut self, papers: &FlatPapers, choice: Standing) -> Result<(), AllocError>
         requires fits { Fits papers.now (view_of R.keys R.seats self.old) }
         requires student { is_student papers.now choice.student ≡ true }
         requires absent { has_entered papers.now self.old.ranks choice.student ≡ false }
@@ -68,10 +49,11 @@ impl<R: Roll> Round<R> {
             (view_of R.keys R.seats self.new) choice.student choice.next) }
         ensures spent { is_spent self.new ≡ is_spent self.old }
     {
-        let at = position_near(papers, choice.student, position_guess);
+        // Mostly the students stand one after the other.
+        let at = position_near(papers, choice.student, self.ranks.as_slice().len());
+        let rank = rank_in(papers, at, choice.next);
         self.ranks.make_room(at)?;
-        let rank = rank_in(papers, at, choice.next, rank_guess);
-        self.ranks.put(at, rank as u8)?;
+        self.ranks.put(at, rank as u8);
         let Some(proposal) = papers.proposal(at, rank) else {
             return Ok(());
         };
@@ -89,7 +71,7 @@ impl<R: Roll> Round<R> {
     ///
     /// It takes memory for each student and each school of the papers and for the seats held. The cost
     /// is a look at the student's row and an offer for each of them. A student who does not stand right after the one before
-    /// in the order of entry is looked up by number, and so is a next choice other than the first.
+    /// in the order of entry is looked up by number.
     pub fn resume(
         alloc: Global,
         papers: &FlatPapers,
@@ -98,64 +80,18 @@ impl<R: Roll> Round<R> {
         requires { CanResume papers.now next_choices.now }
         ensures { IfOk result (IsResumed R.keys R.seats papers.now next_choices.now) }
     {
-        Round::resume_near(alloc, papers, next_choices, &[], &[])
-    }
-
-    /// Does what `resume` does, told where the students and their choices may stand. `near` may tell, for each next choice
-    /// in turn, at which position of the order of entry its student stands; where it tells nothing, that is taken to be right
-    /// after the student before, and a student who stands elsewhere is looked up by number. `ranks` may tell likewise at which
-    /// rank of the student's choices the next choice stands; one that stands elsewhere is looked up, and looked for among them.
-    /// Nothing else depends on either.
-    pub fn resume_near(
-        alloc: Global,
-        papers: &FlatPapers,
-        next_choices: &[Standing],
-        near: &[usize],
-        ranks: &[u8],
-    ) -> Result<Self, AllocError>
-        requires { CanResume papers.now next_choices.now }
-        ensures { IfOk result (IsResumed R.keys R.seats papers.now next_choices.now) }
-    {
         let mut round = Round::start(alloc, papers)?;
-        round.put_all(papers, next_choices, near, ranks)?;
-        Ok(round)
-    }
-
-    /// Does what `resume_near` does, in the memory of a round that is done with, whatever papers it was of and whether or
-    /// not it is spent.
-    ///
-    /// The cost is a look at each school, one at each student who stood in that round, and for each student of the next
-    /// choices what it is in `resume_near`. A round that never lent its memory before does not know who stood in it, and costs
-    /// two bytes to clear for each student of the papers.
-    pub fn resume_in(
-        self,
-        papers: &FlatPapers,
-        next_choices: &[Standing],
-        near: &[usize],
-        ranks: &[u8],
-    ) -> Result<Self, AllocError>
-        requires { CanResume papers.now next_choices.now }
-        ensures { IfOk result (IsResumed R.keys R.seats papers.now next_choices.now) }
-    {
-        let mut round = self.again(papers)?;
-        round.put_all(papers, next_choices, near, ranks)?;
+        round.put_all(papers, next_choices)?;
         Ok(round)
     }
 
     /// Puts each student of these next choices at theirs, in a round in which nobody has entered.
-    fn put_all(
-        &mut self,
-        papers: &FlatPapers,
-        next_choices: &[Standing],
-        near: &[usize],
-        ranks: &[u8],
-    ) -> Result<(), AllocError>
+    fn put_all(&mut self, papers: &FlatPapers, next_choices: &[Standing]) -> Result<(), AllocError>
         requires { CanTakeAll R.keys R.seats papers.now next_choices.now self.old }
         ensures { OnOk result (IsResumed R.keys R.seats papers.now next_choices.now self.new) }
     {
-        for (turn, choice) in next_choices.iter().enumerate() {
-            let guess = guess_of(near, turn, self.ranks.as_slice().len());
-            self.put(papers, *choice, guess, rank_guess_of(ranks, turn))?;
+        for choice in next_choices {
+            self.put(papers, *choice)?;
         }
         Ok(())
     }

@@ -24,57 +24,6 @@ pub(super) fn seats_at(papers: &FlatPapers, position: usize) -> Seats
     seats
 }
 
-/// Empties a roll in the memory that it has, and gives it these seats. One that is so already stays as it is.
-pub(super) fn renew_roll<R: Roll>(roll: &mut R, seats: Seats)
-    ensures keys { R.keys roll.new ≡ [] }
-    ensures seats { R.seats roll.new ≡ seats }
-{
-    if roll.len() > 0 || roll.capacity() != seats {
-        roll.renew(seats);
-    }
-}
-
-/// Makes the roll at a position one with these seats on which nobody is; where there is none yet, it comes last.
-#[tactic(auto, using(crate::proofs::Renewing::roll_set_same, crate::proofs::Renewing::roll_set_other))]
-fn put_empty_roll<R: Roll>(
-    alloc: Global,
-    rolls: &mut Vec<R>,
-    at: usize,
-    seats: Seats,
-) -> Result<(), AllocError>
-    requires { at ≤ length rolls.old.items }
-    ensures own { OnOk result (roll_at (rolls_of R.keys R.seats rolls.new.items) at
-        ≡ record { keys = []; seats = seats }) }
-    ensures others { OnOk result ((k : ℕ) → k < at
-        → roll_at (rolls_of R.keys R.seats rolls.new.items) k ≡ roll_at (rolls_of R.keys R.seats rolls.old.items) k) }
-    ensures longer { OnOk result (at < length rolls.new.items) }
-    ensures within { OnOk result ((n : ℕ) → at < n → length rolls.old.items ≤ n → length rolls.new.items ≤ n) }
-{
-    if at < rolls.len() {
-        renew_roll(&mut rolls[at], seats);
-        return Ok(());
-    }
-    rolls.push(R::with_capacity(alloc, seats))?;
-    Ok(())
-}
-
-/// Makes these rolls one of its capacity for each school, on which nobody is, in the memory that they have.
-pub(super) fn renew_rolls<R: Roll>(
-    alloc: Global,
-    rolls: &mut Vec<R>,
-    papers: &FlatPapers,
-) -> Result<(), AllocError>
-    ensures length { OnOk result (length rolls.new.items ≡ length papers.now.schools) }
-    ensures empty { OnOk result (AreEmpty papers.now (rolls_of R.keys R.seats rolls.new.items)
-        (length papers.now.schools)) }
-{
-    rolls.truncate(papers.schools_len());
-    for position in 0..papers.schools_len() {
-        put_empty_roll(alloc, rolls, position, seats_at(papers, position))?;
-    }
-    Ok(())
-}
-
 /// A roll of its capacity for each school, on which nobody is.
 pub(super) fn empty_rolls<R: Roll>(alloc: Global, papers: &FlatPapers) -> Result<Vec<R>, AllocError>
     ensures length { IfOk result (λ rolls. length rolls.items ≡ length papers.now.schools) }
@@ -82,7 +31,9 @@ pub(super) fn empty_rolls<R: Roll>(alloc: Global, papers: &FlatPapers) -> Result
         (length papers.now.schools)) }
 {
     let mut rolls = Vec::with_capacity(alloc, papers.schools_len())?;
-    renew_rolls(alloc, &mut rolls, papers)?;
+    for position in 0..papers.schools_len() {
+        rolls.push(R::with_capacity(alloc, seats_at(papers, position)))?;
+    }
     Ok(rolls)
 }
 

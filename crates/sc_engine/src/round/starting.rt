@@ -5,7 +5,7 @@ ghost use Rattle.sc_engine.specs.RoundView.{AreEmpty, StandNowhere};
 ghost use Rattle.sc_engine.specs.Rolls.{rolls_of};
 
 use super::Round;
-use super::rolls::{empty_rolls, renew_rolls};
+use super::rolls::empty_rolls;
 use crate::rank_table::RankTable;
 use sc_papers::{FlatPapers, MOST_STUDENTS, Rejection};
 use sc_seats::Roll;
@@ -49,24 +49,5 @@ impl<R: Roll> Round<R> {
         let ranks = RankTable::with_room(alloc, papers.students_len())?;
         let rolls = empty_rolls(alloc, papers)?;
         Ok(Round::of_parts(papers, alloc, ranks, rolls, Vec::new(alloc)))
-    }
-
-    /// What `start` gives, in the memory of a round that is done with, whatever papers it was of and whether or not
-    /// it is spent.
-    pub(crate) fn again(self, papers: &FlatPapers) -> Result<Self, AllocError>
-        ensures { IfOk result (IsFresh R.keys R.seats papers.now) }
-    {
-        let Round {
-            alloc,
-            mut ranks,
-            mut rolls,
-            mut log,
-            proposals: _,
-            spent: _,
-        } = self;
-        ranks.clear(papers.students_len());
-        renew_rolls(alloc, &mut rolls, papers)?;
-        log.clear();
-        Ok(Round::of_parts(papers, alloc, ranks, rolls, log))
     }
 }

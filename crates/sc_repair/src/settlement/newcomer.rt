@@ -1,4 +1,4 @@
-//! A newcomer, who enters beside everybody who stands.
+//! A newcomer, who enters after everybody who stands.
 
 ghost use Rattle.std.specs.Prelude.{◌≡◌, None, Some};
 ghost use Rattle.sc_papers.specs.Verdict.{verdict};
@@ -8,14 +8,15 @@ ghost use Rattle.sc_repair.specs.Standing.{IsAmended};
 use super::Settlement;
 use crate::districts::follow;
 use crate::entering::enter_newcomer;
+use crate::ledgers::taken;
+use sc_ledgers::proposals_at;
 use sc_papers::{Amendment, StudentNo};
 use std::alloc::AllocError;
 
 impl Settlement {
-    /// Makes the amendment that enters the student, in place, and lets their chain go on in the round in
-    /// which everybody else stands. The only error is want of memory, which changes nothing: where a growth is refused after
-    /// the papers have the student, the amendment is taken back, and only the round is lost, which the next
-    /// newcomer makes again.
+    /// Makes the amendment that enters the student, in place, and lets their chain run by the ledgers of everybody else. The only error is
+    /// want of memory, which changes nothing: where a growth is refused after the papers have the student, the amendment is taken back, and
+    /// only the ledgers are lost, which the next amendment opens again.
     pub(super) fn admit(
         &mut self,
         amendment: Amendment,
@@ -25,6 +26,8 @@ impl Settlement {
         requires newcomer { newcomer amendment ≡ Some student }
         ensures { IsAmended result self.old amendment self.new }
     {
+        let position = self.segments.len();
+        let mut ledgers = taken(self.alloc, &mut self.ledgers, &self.papers, &self.segments)?;
         follow(&mut self.districts, &self.papers, &amendment);
         let back = match self.papers.apply_reversibly(amendment) {
             Ok(back) => back,
@@ -35,17 +38,18 @@ impl Settlement {
         };
         let entered = enter_newcomer(
             self.alloc,
-            &mut self.round,
+            &mut ledgers,
             &self.papers,
             student,
             &mut self.places,
             &mut self.segments,
         );
         match entered {
-            Ok(proposals) => {
+            Ok(()) => {
                 // The newcomer stays.
                 drop(back);
-                self.proposals = proposals;
+                self.proposals = proposals_at(&self.papers, &self.segments, &[position], 0);
+                self.ledgers = Some(ledgers);
                 Ok(())
             }
             Err(refused) => {

@@ -7,64 +7,59 @@ ghost use Rattle.sc_repair.specs.Standing.{IsAmended};
 
 use super::Settlement;
 use crate::districts::region_of;
-use crate::kept_round::{let_leave, move_up, rejoin_without};
-use crate::part::Part;
+use crate::ledgers::{strike, taken};
+use crate::region_positions::positions_from;
 use crate::resettling::resettle;
 use crate::rewind::point_in;
+use sc_ledgers::{Rows, leave, proposals_at};
 use sc_papers::{Amendment, MOST_STUDENTS, StudentNo};
 use std::alloc::AllocError;
 
 impl Settlement {
-    /// Lets a student withdraw, in place, and settles its region anew from its rewind point on: the student moves to the end
-    /// of the order of entry, the others are settled without them, and at last the papers let the student go, and the others
-    /// come back to the round in which everybody stands. The only error is want of memory, which changes nothing: where a
-    /// growth is refused after the student has moved, they move back.
+    /// Lets a student withdraw, in place: the turns of their region are taken anew, where they can differ, as if the student did not enter
+    /// in theirs, and then the papers, the segments and the ledgers let the student go. The only error is want of memory, which changes
+    /// nothing; the ledgers are lost then, which the next amendment opens again.
     pub(super) fn withdraw(&mut self, student: StudentNo) -> Result<(), AllocError>
         requires { verdict self.old.papers (Withdraw student) ≡ None }
         ensures { IsAmended result self.old (Withdraw student) self.new }
     {
         let amendment = Amendment::Withdraw { student };
+        let mut ledgers = taken(self.alloc, &mut self.ledgers, &self.papers, &self.segments)?;
         let region = region_of(self.alloc, &mut self.districts, &self.papers, &amendment)?;
         let point = point_in(&self.papers, &region, &amendment);
-        let positions = region.positions();
-        let_leave(&mut self.round, &mut self.spare, &self.papers, positions);
-        let last = self.papers.students_len() - 1;
-        self.papers.move_student(point, last);
-        // All but the last student are settled.
-        let part = Part {
-            papers: &self.papers,
-            region: &region,
-            point,
-            end: last,
+        // This call tells that the papers are within their limits, so that the next position can be counted.
+        prove!(self.papers.students_len() <= MOST_STUDENTS);
+        strike(&self.papers, &mut ledgers, Some(student));
+        let papers = &self.papers;
+        let rows = Rows {
+            papers,
+            amended: Some(student),
+            before: papers.choices_at(point),
+            leaves: true,
         };
         let settled = resettle(
-            &mut self.spare,
             self.alloc,
-            part,
+            &rows,
+            &mut ledgers,
+            positions_from(&region, point),
+            None,
             &mut self.places,
             &mut self.segments,
         );
         match settled {
-            Ok(proposals) => {
+            Ok(()) => {
                 self.papers.withdraw(student);
-                self.proposals = proposals;
-                // This call tells that the papers are within their limits.
-                prove!(self.papers.students_len() <= MOST_STUDENTS);
-                move_up(&mut self.round, point);
-                rejoin_without(
-                    self.alloc,
-                    &mut self.round,
-                    &mut self.spare,
-                    &self.papers,
-                    positions,
-                    point,
-                );
+                self.segments.remove(point);
+                self.places.leave(point);
+                leave(&mut ledgers, point);
+                // Whoever stood behind the student stands one position further on.
+                let behind = positions_from(&region, point + 1);
+                self.proposals = proposals_at(&self.papers, &self.segments, behind, 1);
+                self.ledgers = Some(ledgers);
                 Ok(())
             }
             Err(refused) => {
-                self.papers.move_student(last, point);
                 self.districts = None;
-                self.round = None;
                 Err(refused)
             }
         }

@@ -1,22 +1,26 @@
-use Rattle.std.proofs.Common.{[], ap, ◌∙◌}
+use Rattle.std.proofs.Common.{◌≡◌, ℕ, ap, ◌∙◌}
 use Rattle.sc_papers.specs.Assignment.{assigned}
+use Rattle.sc_checkpoint.specs.Chains.{logs_in}
 use Rattle.sc_engine.specs.Round.{view_of}
-use Rattle.sc_repair.proofs.Resumption.{stands-forgotten, next-all, proposals-all, segments-all, students-all}
+use Rattle.sc_engine.specs.RoundView.{next_of}
+use Rattle.sc_repair.proofs.Resumption.{certified-of, next-all, proposals-all, segments-all, students-all}
+use Rattle.sc_repair.proofs.opening.settle_all.Given as given
 use Rattle.sc_repair.proofs.opening.settle_all.Goals as goal
+use Rattle.sc_repair.proofs.opening.settle_all.Goals.{After-drop-round-2}
+
+-- everybody has the school at which they stand in the round
+placed : (g : given.Over) (c : After-drop-round-2 g) (i : ℕ) → assigned c.in_ok-places.places i ≡ next_of c.args.papers.now (view_of g.R.Roll.keys g.R.Roll.seats c.enter_all.new.round).ranks i
+placed g c i = ap (λ pairs. assigned pairs i) c.in_ok-places.ensures ∙ c.in_ok-assignment.ensures.given i
 
 pub returns-clause-theirs : goal.returns-clause-theirs
-returns-clause-theirs g c = students-all c.args.papers.now [] _ _ _ c.in_ok-enter_all.ensures.on
+returns-clause-theirs g c = students-all c.args.papers.now _ _ _ c.in_ok-enter_all.ensures
 
-pub returns-clause-segmented : goal.returns-clause-segmented
-returns-clause-segmented g c = segments-all c.args.papers.now [] _ _ _ c.in_ok-enter_all.ensures.on
-
-pub returns-clause-matching : goal.returns-clause-matching
-returns-clause-matching g c i = ap (λ pairs. assigned pairs i) c.in_ok-places.ensures ∙ c.in_ok-assignment.ensures.given i ∙ next-all c.args.papers.now [] _ _ _ c.in_ok-enter_all.ensures.on i
+pub returns-clause-certified : goal.returns-clause-certified
+returns-clause-certified g c =
+    let on = c.in_ok-enter_all.ensures in
+    certified-of c.args.papers.now c.in_ok-places.places (logs_in c.enter_all.new.segments) c.proposals-proposals.result on.fits.well_formed
+    (segments-all c.args.papers.now _ _ _ on) (λ i. placed g c i ∙ next-all c.args.papers.now _ _ _ on i)
 
 pub returns-clause-proposals : goal.returns-clause-proposals
 returns-clause-proposals g c =
-    c.proposals-proposals.ensures
-    ∙ proposals-all c.args.papers.now (view_of g.R.Roll.keys g.R.Roll.seats c.enter_all.new.round) _ _ (assigned c.in_ok-places.places) c.in_ok-enter_all.ensures.on (λ i. ap (λ pairs. assigned pairs i) c.in_ok-places.ensures ∙ c.in_ok-assignment.ensures.given i)
-
-pub returns-clause-stands : goal.returns-clause-stands
-returns-clause-stands g c = stands-forgotten c.args.papers.now [] _ c.enter_all.new.segments (view_of g.R.Roll.keys g.R.Roll.seats c.enter_all.new.round) _ c.forget_log.ensures.forgotten c.in_ok-enter_all.ensures.on
+    c.proposals-proposals.ensures ∙ proposals-all c.args.papers.now _ _ _ c.in_ok-enter_all.ensures (assigned c.in_ok-places.places) (placed g c)

@@ -1,16 +1,22 @@
-use Rattle.std.proofs.Common.{◌≡◌, ap, ◌<◌, inl, sym, ◌∙◌, ℕ, true, get_or, length, Some, arith}
+use Rattle.std.proofs.Common.{◌≡◌, refl, ap, ◌<◌, inl, sym, ◌∙◌, ℕ, true, get_or, length, Some, arith}
 use Rattle.std.proofs.lemmas.Bool.{eqb-true}
 use Rattle.std.proofs.lemmas.List.{length-map}
 use Rattle.std.proofs.lemmas.Option.{slice_get-get_or}
 use Rattle.sc_papers.specs.Market.{Market, choices_of, students_of}
 use Rattle.sc_papers.specs.declared.amendment.Amendment.{Amendment}
+use Rattle.sc_stamps.specs.Record.{record_of}
+use Rattle.sc_papers.specs.declared.amendment.Amendment.TheVariants.{Add}
 use Rattle.sc_region.specs.Region.{amended_school, concerned, InRegion}
-use Rattle.sc_repair.specs.Rejoining.{school_in}
+use Rattle.sc_repair.specs.Anew.{school_in}
 use Rattle.sc_repair.specs.Rewinding.{lists}
 use Rattle.std.proofs.lemmas.Map.Views.{Contains-from_any}
 use Rattle.sc_repair.proofs.Resumption.{any-turned}
-use Rattle.sc_repair.proofs.Rejoining.{amended-in}
 use Rattle.sc_repair.proofs.rewind.point_in.Goals as goal
+
+-- the school that an amendment amends is that of its record
+amended-in : (a : Amendment) → school_in (record_of a) ≡ amended_school a
+amended-in (Add s count) = refl
+amended-in _ = refl
 
 -- whoever lists the amended school is in the region
 in-region : (m : Market) (a : Amendment) (s p : ℕ) → amended_school a ≡ Some s → p < length m.students → lists m s (get_or (students_of m) p 0) ≡ true

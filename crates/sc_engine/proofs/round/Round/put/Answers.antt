@@ -15,13 +15,13 @@ use Rattle.sc_engine.proofs.Proposing.{proposes_there}
 use Rattle.sc_engine.proofs.Putting.{next-begun, put-nowhere, roll-open, put-on_roll}
 use Rattle.sc_engine.proofs.round.Round.put.Given as given
 use Rattle.sc_engine.proofs.round.Round.put.Goals as goal
-use Rattle.sc_engine.proofs.round.Round.put.Goals.{In-Some, In_ok-put}
+use Rattle.sc_engine.proofs.round.Round.put.Goals.{In-Some, In_ok-make_room}
 
 -- the round with the student at their rank
-abbrev mid : (g : given.Over) (c : In_ok-put g) → RoundView
+abbrev mid : (g : given.Over) (c : In_ok-make_room g) → RoundView
 mid g c = moved (view_of g.R.Roll.keys g.R.Roll.seats c.args.self.now) c.make_room.new.self c.position_near-at.result c.rank_in-rank.result
 
-begun : (g : given.Over) (c : In_ok-put g) → Begun c.args.papers.now (view_of g.R.Roll.keys g.R.Roll.seats c.args.self.now) (mid g c) c.args.choice.student c.position_near-at.result c.rank_in-rank.result
+begun : (g : given.Over) (c : In_ok-make_room g) → Begun c.args.papers.now (view_of g.R.Roll.keys g.R.Roll.seats c.args.self.now) (mid g c) c.args.choice.student c.position_near-at.result c.rank_in-rank.result
 begun g c =
     begins c.args.papers.now (view_of g.R.Roll.keys g.R.Roll.seats c.args.self.now) c.make_room.new.self c.args.choice.student c.position_near-at.result c.rank_in-rank.result c.requires.fits c.position_near-at.ensures
     c.requires.absent c.in_ok-make_room.ensures.room c.in_ok-make_room.ensures.same c.in_ok-make_room.ensures.within
@@ -44,8 +44,8 @@ rank_in-rank-requires-clause-listed g c =
 pub returns-in_default-clause-stands : goal.returns-in_default-clause-stands
 returns-in_default-clause-stands g c =
     let old = view_of g.R.Roll.keys g.R.Roll.seats c.args.self.now in
-    subst (λ (ranks : List (Option ℕ)). StandsToo c.args.papers.now old (record old { ranks = ranks }) c.args.choice.student c.args.choice.next) (sym c.in_ok-put.ensures)
-    (put-nowhere (begun g (goal.at.returns-in_default-clause-stands g c).In_ok-put) c.args.choice.next c.rank_in-rank.ensures.rank
+    subst (λ (ranks : List (Option ℕ)). StandsToo c.args.papers.now old (record old { ranks = ranks }) c.args.choice.student c.args.choice.next) (sym c.put.ensures)
+    (put-nowhere (begun g (goal.at.returns-in_default-clause-stands g c).In_ok-make_room) c.args.choice.next c.rank_in-rank.ensures.rank
     (sym c.rank_in-rank.ensures.rank ∙ sym c.proposal.ensures.school ∙ ap (option_map (λ (p : Proposal). p.school)) c.in_default.is))
 
 pub offer_to-requires-clause-new : goal.offer_to-requires-clause-new
@@ -53,7 +53,7 @@ offer_to-requires-clause-new g c =
     let at = goal.at.offer_to-requires-clause-new g c in
     let so = told g at.In-Some in
     roll-new c.args.papers.now _ (only c.args.choice.student) c.args.choice.student c.in-Some.proposal.school c.in-Some.proposal.position c.of-offered.result
-    (away-begun (begun g at.In_ok-put)) so.position (c.of-offered.ensures ∙ so.key)
+    (away-begun (begun g at.In_ok-make_room)) so.position (c.of-offered.ensures ∙ so.key)
 
 pub unreachable-requires : goal.unreachable-requires
 unreachable-requires g c =
@@ -73,10 +73,10 @@ returns-clause-stands g c =
     let old = view_of g.R.Roll.keys g.R.Roll.seats c.args.self.now in
     let rolls = rolls_of g.R.Roll.keys g.R.Roll.seats c.offer_to.new.rolls.items in
     let at = goal.at.returns-clause-stands g c in
-    let put = mid g at.In_ok-put in
+    let put = mid g at.In_ok-make_room in
     let so = told g at.In-Some in
-    let start = begun g at.In_ok-put in
-    subst (λ (ranks : List (Option ℕ)). StandsToo papers old (record old { ranks = ranks; rolls = rolls }) c.args.choice.student c.args.choice.next) (sym c.in_ok-put.ensures)
+    let start = begun g at.In_ok-make_room in
+    subst (λ (ranks : List (Option ℕ)). StandsToo papers old (record old { ranks = ranks; rolls = rolls }) c.args.choice.student c.args.choice.next) (sym c.put.ensures)
     (put-on_roll start (record put { rolls = rolls }) c.args.choice.next c.in-Some.proposal.school c.in-Some.proposal.position c.rank_in-rank.ensures.rank (sym so.school)
     (proposed-told papers put (only c.args.choice.student) c.args.choice.student c.in-Some.proposal.school c.in-Some.proposal.position c.of-offered.result rolls c.in_ok-out.out None
     (away-begun start) (next-begun start c.args.choice.next c.rank_in-rank.ensures.rank ∙ sym so.school) so.position (c.of-offered.ensures ∙ so.key) c.in_ok-out.ensures

@@ -1,7 +1,0 @@
-use Rattle.std.proofs.Common.{◌≤◌, length}
-use Rattle.sc_engine.specs.RoundView.{AreEmpty}
-use Rattle.sc_engine.specs.Rolls.{rolls_of}
-use Rattle.sc_engine.proofs.round.rolls.renew_rolls.Given as goal
-
-abbrev pub invariant-loop-position : goal.invariant-loop-position
-invariant-loop-position g l = (l.position ≤ length l.rolls.items) × (length l.rolls.items ≤ length l.papers.schools) × AreEmpty l.papers (rolls_of g.R.Roll.keys g.R.Roll.seats l.rolls.items) l.position

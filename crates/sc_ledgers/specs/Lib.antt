@@ -1,0 +1,14 @@
+pub mod Anew
+pub mod Cohort
+pub mod Course
+pub mod Elsewhere
+pub mod Entered
+pub mod Known
+pub mod Ledger
+pub mod Left
+pub mod Marks
+pub mod Opening
+pub mod Proposals
+pub mod Renewed
+pub mod Sweep
+pub mod Whole

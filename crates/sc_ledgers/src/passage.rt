@@ -1,0 +1,98 @@
+//! A sweep over the turns of a region.
+
+ghost use Rattle.std.specs.Prelude.{◌≡◌, ◌⊎◌, ◌<◌, ◌+◌, ℕ, Bool, List, [], Contains, OnOk, length, true};
+ghost use Rattle.sc_papers.specs.Market.{student_at};
+ghost use Rattle.sc_papers.specs.declared.rejection.Rejection.{Rejection};
+ghost use Rattle.sc_checkpoint.specs.Chains.{logs_in, students_in};
+ghost use Rattle.sc_ledgers.specs.Cohort.{Cohort};
+ghost use Rattle.sc_ledgers.specs.Renewed.{AreTheirs, IsSweeping, IsUnderWay};
+ghost use Rattle.sc_ledgers.specs.Sweep.{AreReady};
+
+use crate::elsewhere::Stances;
+use crate::following::Rows;
+use crate::ledger::Ledger;
+use crate::marks::Marks;
+use crate::renewal::Renewal;
+use crate::sweep::take_turn;
+use sc_checkpoint::Segments;
+use sc_papers::{FlatPapers, MOST_STUDENTS, Rejection};
+use std::alloc::{AllocError, Global};
+
+/// The turn at a position.
+pub(crate) fn turn_at(papers: &FlatPapers, position: usize) -> u32
+    requires { position < length papers.now.students }
+    ensures { result ≡ position }
+{
+    // This call tells that the papers are within their limits, so that a turn can be counted.
+    prove!(papers.students_len() <= MOST_STUDENTS);
+    position as u32
+}
+
+/// Takes the turn of the student at a position, and notes its segment if it was taken anew. The list for the chain is empty before it
+/// and after it. After a refused growth all is to be given up.
+fn take_next(
+    rows: &Rows<'_>,
+    ledgers: &mut Vec<Ledger>,
+    stances: &mut Stances,
+    marks: &mut Marks,
+    segments: &Segments,
+    position: usize,
+    renewal: &mut Renewal,
+    chain: &mut Vec<Rejection>,
+) -> Result<(), AllocError>
+    requires one_each { length ledgers.old.items ≡ length rows.now.papers.now.schools }
+    requires none { chain.old.items ≡ [] }
+    requires ready { AreReady rows.now.papers.now position marks.old ledgers.old.items }
+    requires within { position < length segments.now }
+    requires sweeping { (m : Cohort) × (reseated : ℕ → Bool) × (test : ℕ → Bool) × (inner : ℕ → Bool)
+        × IsSweeping m rows.now reseated test inner (logs_in segments.now) renewal.old position ledgers.old.items stances.old marks.old }
+    ensures one_each { length ledgers.new.items ≡ length rows.now.papers.now.schools }
+    ensures none { OnOk result (chain.new.items ≡ []) }
+    ensures here { OnOk result ((p : ℕ) → Contains renewal.new.positions p → Contains renewal.old.positions p ⊎ (p ≡ position)) }
+    ensures ready { OnOk result (AreReady rows.now.papers.now (position + 1) marks.new ledgers.new.items) }
+    ensures swept { OnOk result ((m : Cohort) (reseated test inner : ℕ → Bool)
+        → IsSweeping m rows.now reseated test inner (logs_in segments.now) renewal.old position ledgers.old.items stances.old marks.old
+        → test (student_at rows.now.papers.now position) ≡ true
+        → IsSweeping m rows.now reseated test inner (logs_in segments.now) renewal.new (position + 1) ledgers.new.items stances.new marks.new) }
+    ensures owners { OnOk result (AreTheirs (students_in segments.now) renewal.old → AreTheirs (students_in segments.now) renewal.new) }
+{
+    let turn = turn_at(rows.papers, position);
+    let old = segments.segment(position);
+    if take_turn(rows, ledgers, stances, marks, turn, position, old, chain)? {
+        renewal.push(position, segments.student(position), chain.as_slice())?;
+        chain.clear();
+    }
+    Ok(())
+}
+
+/// Takes the turns of a region in turn, from the rewind point on: their positions rise. Whatever is taken anew is noted. After a refused
+/// growth all is to be given up.
+pub(crate) fn sweep(
+    alloc: Global,
+    rows: &Rows<'_>,
+    ledgers: &mut Vec<Ledger>,
+    stances: &mut Stances,
+    marks: &mut Marks,
+    segments: &Segments,
+    positions: &[usize],
+    renewal: &mut Renewal,
+) -> Result<(), AllocError>
+    requires one_each { length ledgers.old.items ≡ length rows.now.papers.now.schools }
+    requires start { (m : Cohort) × (reseated : ℕ → Bool) × (test : ℕ → Bool) × (inner : ℕ → Bool)
+        × IsUnderWay m rows.now reseated test inner (logs_in segments.now) renewal.old ledgers.old.items stances.old marks.old positions.now }
+    ensures one_each { length ledgers.new.items ≡ length rows.now.papers.now.schools }
+    ensures theirs { OnOk result ((p : ℕ) → Contains renewal.new.positions p → Contains renewal.old.positions p ⊎ Contains positions.now p) }
+    ensures swept { OnOk result ((m : Cohort) (reseated test inner : ℕ → Bool)
+        → IsUnderWay m rows.now reseated test inner (logs_in segments.now) renewal.old ledgers.old.items stances.old marks.old positions.now
+        → IsUnderWay m rows.now reseated test inner (logs_in segments.now) renewal.new ledgers.new.items stances.new marks.new []) }
+    ensures owners { OnOk result (AreTheirs (students_in segments.now) renewal.old → AreTheirs (students_in segments.now) renewal.new) }
+{
+    let mut chain = Vec::new(alloc);
+    for position in positions {
+        let at = *position;
+        take_next(
+            rows, ledgers, stances, marks, segments, at, renewal, &mut chain,
+        )?;
+    }
+    Ok(())
+}

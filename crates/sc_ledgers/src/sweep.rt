@@ -1,0 +1,199 @@
+//! The turns from the rewind point on, each as it was or taken anew.
+
+ghost use Rattle.std.specs.Prelude.{◌≡◌, ◌<◌, ◌+◌, ℕ, Bool, not, All, IfOk, List, [], get_or, if◌then◌else◌, OnErr, OnOk, Some, true, false, length, slice_get};
+ghost use Rattle.sc_papers.specs.Market.{choices_of, student_at};
+ghost use Rattle.sc_papers.specs.declared.rejection.Rejection.{Rejection};
+ghost use Rattle.sc_ledgers.specs.Cohort.{Cohort};
+ghost use Rattle.sc_ledgers.specs.Course.{labels_of, AreTogether, Begins};
+ghost use Rattle.sc_ledgers.specs.Elsewhere.{cohort_of, first_of, is_aside, still_enters, AreAmong, HasPut};
+ghost use Rattle.sc_ledgers.specs.Marks.{marked_in, AreFewer, AreFlagged};
+ghost use Rattle.sc_ledgers.specs.Sweep.{is_amended, AreInRegion, AreReady, HasRun, IsDue, IsNext, IsRegion, IsRetaken, IsTaken};
+
+use crate::chain::run_chain;
+use crate::elsewhere::{Run, Stance, Stances};
+use crate::following::{Rows, follow};
+use crate::ledger::Ledger;
+use crate::marks::Marks;
+use crate::striking::strike_turn;
+use sc_papers::Rejection;
+use std::alloc::AllocError;
+
+/// Whether the student at a position does not enter in the new run.
+fn has_left(rows: &Rows<'_>, position: usize) -> bool
+    requires { position < length rows.now.papers.now.students }
+    ensures { result ≡ not (still_enters rows.now (student_at rows.now.papers.now position)) }
+{
+    let Some(student) = rows.papers.student_at(position) else {
+        unreachable!()
+    };
+    rows.leaves && rows.amended == Some(student)
+}
+
+/// The student at a position enters. Whoever is amended stands at the first of their old choices in the old run, and of their new
+/// ones in the new run, if they enter in it. A refused growth changes nothing.
+fn enter(rows: &Rows<'_>, stances: &mut Stances, position: usize) -> Result<(), AllocError>
+    requires { position < length rows.now.papers.now.students }
+    ensures others { OnOk result (is_amended rows.now.amended (student_at rows.now.papers.now position) ≡ false
+        → stances.new ≡ stances.old) }
+    ensures theirs { OnOk result (is_amended rows.now.amended (student_at rows.now.papers.now position) ≡ true
+        → HasPut stances.old stances.new (record {
+          student = student_at rows.now.papers.now position;
+          old = slice_get rows.now.before.now 0;
+          new = first_of rows.now (student_at rows.now.papers.now position);
+        })) }
+{
+    let Some(student) = rows.papers.student_at(position) else {
+        unreachable!()
+    };
+    if rows.amended != Some(student) {
+        return Ok(());
+    }
+    let old = rows.before.first().copied();
+    let new = if rows.leaves {
+        None
+    } else {
+        rows.papers.choice_at(position, 0)
+    };
+    stances.put(Stance { student, old, new })
+}
+
+/// The student at a position enters in the new run, unless they have left: their chain runs, and the stances follow it. After a refused
+/// growth the ledgers and the stances are to be given up.
+pub(crate) fn run_turn(
+    rows: &Rows<'_>,
+    ledgers: &mut Vec<Ledger>,
+    stances: &mut Stances,
+    turn: u32,
+    position: usize,
+    chain: &mut Vec<Rejection>,
+) -> Result<(), AllocError>
+    requires first { position ≡ turn }
+    requires within { position < length rows.now.papers.now.students }
+    requires one_each { length ledgers.old.items ≡ length rows.now.papers.now.schools }
+    requires none { chain.old.items ≡ [] }
+    requires begins { (news : List (List Rejection))
+        × (still_enters rows.now (student_at rows.now.papers.now position) ≡ true
+        → Begins (cohort_of rows.now) news turn (labels_of rows.now.papers.now ledgers.old.items)) }
+    ensures one_each { length ledgers.new.items ≡ length rows.now.papers.now.schools }
+    ensures fewer { OnOk result (AreFewer turn ledgers.old.items ledgers.new.items) }
+    ensures kept { OnOk result ((j : ℕ) → is_aside stances.old j ≡ true → is_aside stances.new j ≡ true) }
+    ensures left { OnOk result (still_enters rows.now (student_at rows.now.papers.now position) ≡ false
+        → (chain.new.items ≡ []) × (ledgers.new.items ≡ ledgers.old.items) × (stances.new ≡ stances.old)) }
+    ensures ran { OnOk result ((news : List (List Rejection)) → still_enters rows.now (student_at rows.now.papers.now position) ≡ true
+        → Begins (cohort_of rows.now) news turn (labels_of rows.now.papers.now ledgers.old.items)
+        → HasRun rows.now news turn chain.new.items (labels_of rows.now.papers.now ledgers.old.items)
+        (labels_of rows.now.papers.now ledgers.new.items) stances.old stances.new) }
+{
+    if has_left(rows, position) {
+        return Ok(());
+    }
+    run_chain(rows.papers, ledgers, turn, position, chain)?;
+    follow(rows, stances, Run::New, chain.as_slice())?;
+    Ok(())
+}
+
+/// Takes a turn anew, in which the student at a position enters and of which these rejections came in the old run: what it left in the
+/// ledgers is struck, its chain runs, if they enter in the new run too, and the stances follow both. After a refused growth the ledgers and the stances are to be given
+/// up.
+fn retake(
+    rows: &Rows<'_>,
+    ledgers: &mut Vec<Ledger>,
+    stances: &mut Stances,
+    turn: u32,
+    position: usize,
+    old: &[Rejection],
+    chain: &mut Vec<Rejection>,
+) -> Result<(), AllocError>
+    requires first { position ≡ turn }
+    requires one_each { length ledgers.old.items ≡ length rows.now.papers.now.schools }
+    requires none { chain.old.items ≡ [] }
+    requires due { (m : Cohort) × (olds : List (List Rejection)) × (news : List (List Rejection)) × (i : ℕ)
+        × (slice_get olds turn ≡ Some old.now)
+        × IsDue m (cohort_of rows.now) rows.now.amended rows.now.before.now olds news turn i
+        (labels_of rows.now.papers.now ledgers.old.items) stances.old }
+    ensures one_each { length ledgers.new.items ≡ length rows.now.papers.now.schools }
+    ensures fewer { OnOk result (AreFewer turn ledgers.old.items ledgers.new.items) }
+    ensures among { OnOk result ((m : Cohort) (olds news : List (List Rejection)) (i : ℕ) (test inner : ℕ → Bool) → slice_get olds turn ≡ Some old.now
+        → IsDue m (cohort_of rows.now) rows.now.amended rows.now.before.now olds news turn i
+        (labels_of rows.now.papers.now ledgers.old.items) stances.old
+        → AreTogether rows.now.papers.now test inner → test i ≡ true → All (λ e. test e.student ≡ true) old.now
+        → AreAmong test stances.old → AreAmong test stances.new) }
+    ensures retaken { OnOk result ((m : Cohort) (olds news : List (List Rejection)) (i : ℕ) → slice_get olds turn ≡ Some old.now
+        → IsDue m (cohort_of rows.now) rows.now.amended rows.now.before.now olds news turn i
+        (labels_of rows.now.papers.now ledgers.old.items) stances.old
+        → IsRetaken m (cohort_of rows.now) rows.now.amended olds news turn chain.new.items
+        (labels_of rows.now.papers.now ledgers.old.items) (labels_of rows.now.papers.now ledgers.new.items) stances.new) }
+{
+    enter(rows, stances, position)?;
+    follow(rows, stances, Run::Old, old)?;
+    strike_turn(rows.papers, ledgers, turn, position, old);
+    run_turn(rows, ledgers, stances, turn, position, chain)?;
+    stances.drop_alike(rows.amended);
+    Ok(())
+}
+
+/// Whether a turn is as it was: its student is not amended, its segment names no marked school, and nobody came to stand at one in it.
+fn is_still(
+    rows: &Rows<'_>,
+    marks: &Marks,
+    turn: u32,
+    position: usize,
+    segment: &[Rejection],
+) -> bool
+    requires { position < length rows.now.papers.now.students }
+    ensures beside { result ≡ true → is_amended rows.now.amended (student_at rows.now.papers.now position) ≡ false }
+    ensures unmarked { result ≡ true → All (λ e. marked_in rows.now.papers.now marks.now.flags e.school ≡ false) segment.now }
+    ensures within { result ≡ true → turn < length marks.now.counts }
+    ensures none { result ≡ true → get_or marks.now.counts turn 0 ≡ 0 }
+    ensures flagged { AreFlagged marks.now.places marks.now.flags }
+{
+    let quiet = marks.is_quiet(turn);
+    let Some(student) = rows.papers.student_at(position) else {
+        unreachable!()
+    };
+    quiet && rows.amended != Some(student) && !marks.have_any(rows.papers, segment)
+}
+
+/// Takes one turn, in which the student at a position enters and of which these rejections came in the old run: it stays as it was, or
+/// is taken anew, and the marks follow. The answer is whether it was taken anew; its rejections are then those of the chain. After a
+/// refused growth all is to be given up.
+pub(crate) fn take_turn(
+    rows: &Rows<'_>,
+    ledgers: &mut Vec<Ledger>,
+    stances: &mut Stances,
+    marks: &mut Marks,
+    turn: u32,
+    position: usize,
+    old: &[Rejection],
+    chain: &mut Vec<Rejection>,
+) -> Result<bool, AllocError>
+    requires first { position ≡ turn }
+    requires one_each { length ledgers.old.items ≡ length rows.now.papers.now.schools }
+    requires none { chain.old.items ≡ [] }
+    requires ready { AreReady rows.now.papers.now turn marks.old ledgers.old.items }
+    requires next { (m : Cohort) × (olds : List (List Rejection)) × (news : List (List Rejection)) × (reseated : ℕ → Bool)
+        × IsNext m (cohort_of rows.now) rows.now.amended rows.now.before.now reseated olds news turn old.now
+        (labels_of rows.now.papers.now ledgers.old.items) stances.old marks.old }
+    ensures one_each { length ledgers.new.items ≡ length rows.now.papers.now.schools }
+    ensures ready { OnOk result (AreReady rows.now.papers.now (turn + 1) marks.new ledgers.new.items) }
+    ensures inside { OnOk result ((m : Cohort) (olds news : List (List Rejection)) (reseated test inner : ℕ → Bool)
+        → IsNext m (cohort_of rows.now) rows.now.amended rows.now.before.now reseated olds news turn old.now
+        (labels_of rows.now.papers.now ledgers.old.items) stances.old marks.old
+        → IsRegion m.papers rows.now.papers.now rows.now.amended test inner
+        → test (student_at rows.now.papers.now position) ≡ true
+        → AreInRegion rows.now.papers.now test inner stances.old marks.old
+        → AreInRegion rows.now.papers.now test inner stances.new marks.new) }
+    ensures empty { IfOk result (λ anew. anew ≡ false → chain.new.items ≡ []) }
+    ensures taken { IfOk result (λ anew. (m : Cohort) (olds news : List (List Rejection)) (reseated : ℕ → Bool)
+        → IsNext m (cohort_of rows.now) rows.now.amended rows.now.before.now reseated olds news turn old.now
+        (labels_of rows.now.papers.now ledgers.old.items) stances.old marks.old
+        → IsTaken m (cohort_of rows.now) rows.now.amended reseated olds news turn (if anew then chain.new.items else old.now)
+        (labels_of rows.now.papers.now ledgers.new.items) stances.new marks.new) }
+{
+    if is_still(rows, marks, turn, position, old) {
+        return Ok(false);
+    }
+    retake(rows, ledgers, stances, turn, position, old, chain)?;
+    marks.follow(rows.papers, ledgers, stances.as_slice())?;
+    Ok(true)
+}
