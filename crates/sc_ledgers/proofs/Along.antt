@@ -13,9 +13,9 @@ use Rattle.sc_checkpoint.proofs.Replacing.{replaced-length, replaced-other, repl
 use Rattle.sc_ledgers.specs.Cohort.{Cohort}
 use Rattle.sc_ledgers.specs.Course.{labels_of, AreTogether}
 use Rattle.sc_ledgers.specs.Elsewhere.{cohort_of, AreAmong}
-use Rattle.sc_ledgers.specs.Marks.{flag_at, marked_in, FlagsPass, HaveCounts, Marking}
+use Rattle.sc_ledgers.specs.Marks.{flag_at, marked_in, FlagsPass, Marking}
 use Rattle.sc_ledgers.specs.Renewed.{anew, AreTurnsOf, IsSweeping, IsUnderWay, NoneBetween, Renewed}
-use Rattle.sc_ledgers.specs.Sweep.{is_amended, AreAmended, AreInside, AreInRegion, AreReady, IsNext, IsSwept, IsTaken}
+use Rattle.sc_ledgers.specs.Sweep.{is_amended, AreAmended, AreInside, AreInRegion, IsNext, IsSwept, IsTaken}
 use Rattle.sc_ledgers.specs.declared.elsewhere.Stance.{Stance}
 use Rattle.sc_ledgers.specs.declared.following.Rows.{Rows}
 use Rattle.sc_ledgers.specs.declared.ledger.Label.{Label}
@@ -84,13 +84,6 @@ sweeping-next segment here sweeping = record {
   here = here;
 }
 
-pub ready-along : (m : Market) (k p : ℕ) (marks : Marking) (ledgers : List (List Label)) → k ≤ p → AreReady m k marks ledgers → AreReady m p marks ledgers
-ready-along m k p marks ledgers up ready = record {
-  covers = λ t late within. ready.covers t (omega (arith, late, up)) within;
-  counts = ready.counts;
-  many = ready.many;
-}
-
 -- one segment in the place of another
 set-there : (xs : List (List Rejection)) (k : ℕ) (x : List Rejection) → k < length xs → take (k + 1) (set xs k x) ≡ take k xs ++ x ∷ []
 set-there xs k x low =
@@ -138,12 +131,12 @@ sweeping-still {m} {rows} {reseated} {test} {inner} {old} {renewed} {k} {ledgers
 
 -- the first of the turns that are left
 pub underway-next : {m : Cohort} {rows : Rows} {reseated test inner : ℕ → Bool} {old : List (List Rejection)} {renewed : Renewed} {ledgers : List (List Label)} {list : List Stance} {marks : Marking} (p : ℕ) (rest : List ℕ) → IsUnderWay m rows reseated test inner old renewed ledgers list marks (p ∷ rest)
-    → (p < length old) × AreReady rows.papers.now p marks ledgers × IsSweeping m rows reseated test inner old renewed p ledgers list marks × (test (student_at rows.papers.now p) ≡ true) × AreTurnsOf rows.papers.now test (p + 1) (length old) rest
-underway-next {m} {rows} {old = old} {ledgers = ledgers} {marks = marks} p rest (k, ready, sweeping, (up, low, none, passes, turns)) =
-    (low, ready-along rows.papers.now k p marks ledgers up ready, sweeping-along k p up (omega (arith, low)) none sweeping, passes, turns)
+    → (p < length old) × IsSweeping m rows reseated test inner old renewed p ledgers list marks × (test (student_at rows.papers.now p) ≡ true) × AreTurnsOf rows.papers.now test (p + 1) (length old) rest
+underway-next {m} {rows} {old = old} {ledgers = ledgers} {marks = marks} p rest (k, sweeping, (up, low, none, passes, turns)) =
+    (low, sweeping-along k p up (omega (arith, low)) none sweeping, passes, turns)
 
 pub underway-at : {m : Cohort} {rows : Rows} {reseated test inner : ℕ → Bool} {old : List (List Rejection)} {renewed : Renewed} {ledgers : List (List Label)} {list : List Stance} {marks : Marking} (positions : List ℕ) (r p : ℕ) → r < length positions → p ≡ get_or positions r p → IsUnderWay m rows reseated test inner old renewed ledgers list marks (drop r positions)
-    → (p < length old) × AreReady rows.papers.now p marks ledgers × IsSweeping m rows reseated test inner old renewed p ledgers list marks × (test (student_at rows.papers.now p) ≡ true) × AreTurnsOf rows.papers.now test (p + 1) (length old) (drop (r + 1) positions)
+    → (p < length old) × IsSweeping m rows reseated test inner old renewed p ledgers list marks × (test (student_at rows.papers.now p) ≡ true) × AreTurnsOf rows.papers.now test (p + 1) (length old) (drop (r + 1) positions)
 underway-at {m} {rows} {reseated} {test} {inner} {old} {renewed} {ledgers} {list} {marks} positions r p low is way =
     underway-next p (drop (r + 1) positions)
     (subst (IsUnderWay m rows reseated test inner old renewed ledgers list marks) (drop_more positions r p low ∙ ap (λ x. x ∷ drop (r + 1) positions) (sym is)) way)
@@ -152,15 +145,13 @@ underway-at {m} {rows} {reseated} {test} {inner} {old} {renewed} {ledgers} {list
 pub record IsOver (m : Cohort) (rows : Rows) (reseated test : ℕ → Bool) (old : List (List Rejection)) (renewed : Renewed) (ledgers : List (List Label)) (list : List Stance) (marks : Marking) : Type 0 where
   pub both : AreAmended m (cohort_of rows) rows.amended rows.before.now reseated old
   pub swept : IsSwept m (cohort_of rows) rows.amended old (anew old renewed) (length old) (labels_of rows.papers.now ledgers) list (marked_in rows.papers.now marks.flags) reseated
-  pub counts : HaveCounts marks ledgers
-  pub many : length marks.counts ≡ length (students_of rows.papers.now)
   pub among : AreAmong test list
   pub one_each : length renewed.positions ≡ length renewed.chains
   pub below : (p : ℕ) → Contains renewed.positions p → p < length old
 
 pub underway-over : {m : Cohort} {rows : Rows} {reseated test inner : ℕ → Bool} {old : List (List Rejection)} {renewed : Renewed} {ledgers : List (List Label)} {list : List Stance} {marks : Marking} → IsUnderWay m rows reseated test inner old renewed ledgers list marks []
     → IsOver m rows reseated test old renewed ledgers list marks
-underway-over {m} {rows} {reseated} {old = old} {renewed = renewed} {ledgers = ledgers} {list = list} {marks = marks} (k, ready, sweeping, none) =
+underway-over {m} {rows} {reseated} {old = old} {renewed = renewed} {ledgers = ledgers} {list = list} {marks = marks} (k, sweeping, none) =
     let many : length (anew old renewed) ≡ length old = replaced-length old renewed.positions (logs_in renewed.chains) in
     let low : k ≤ length old = omega (arith, sweeping.swept.as_many, length-take k (anew old renewed), many) in
     let last = sweeping-along k (length old) low (omega arith) none sweeping in
@@ -168,8 +159,6 @@ underway-over {m} {rows} {reseated} {old = old} {renewed = renewed} {ledgers = l
     record {
       both = last.both;
       swept = subst (λ l. IsSwept m (cohort_of rows) rows.amended old l (length old) (labels_of rows.papers.now ledgers) list (marked_in rows.papers.now marks.flags) reseated) whole last.swept;
-      counts = ready.counts;
-      many = ready.many;
       among = last.inside.among;
       one_each = last.as_many;
       below = λ p here. last.before p here;

@@ -1,19 +1,21 @@
 -- Of the labels of a whole run one of each key is kept: they are its labels.
-use Rattle.std.proofs.Common.{◌≡◌, inl, inr, refl, ap, sym, subst, ◌∙◌, ℕ, ◌+◌, ◌-◌, ◌<◌, ◌≤◌, List, [], ◌∷◌, ◌++◌, slice_set, Option, None, Some, length, get_or, nat_eq, position, Contains, arith}
+use Rattle.std.proofs.Common.{◌≡◌, inl, inr, refl, ap, sym, subst, ◌∙◌, ℕ, ◌+◌, ◌-◌, ◌<◌, ◌≤◌, List, [], ◌∷◌, ◌++◌, slice_set, Option, None, Some, length, get_or, nat_eq, position, All, Contains, arith}
 use Rattle.std.proofs.lemmas.Bool.{cases_eq, cases_lt}
-use Rattle.std.proofs.lemmas.List.{get_or_append_left, get_or_default, get_or_past, get_or_push, get_or-set_other, length-set, length_push}
+use Rattle.std.proofs.lemmas.List.{get_or_append_left, get_or_default, get_or_past, get_or_push, get_or-set_other, length-map, length-set, length_push}
 use Rattle.sc_papers.specs.Market.{Market, schools_of}
 use Rattle.sc_papers.specs.Key.{key_of}
-use Rattle.sc_papers.specs.WellFormed.{WellFormed}
+use Rattle.sc_papers.specs.WellFormed.{WellFormed, WithinLimits}
 use Rattle.sc_papers.specs.declared.rejection.Rejection.{Rejection}
-use Rattle.sc_ledgers.specs.Cohort.{Cohort, IsRunTo}
+use Rattle.sc_ledgers.specs.Cohort.{cohort, Cohort, IsRunTo}
 use Rattle.sc_ledgers.specs.Course.{labels_at, labels_of}
 use Rattle.sc_ledgers.specs.Known.{HasEachKey}
 use Rattle.sc_ledgers.specs.Ledger.{HasAskedBy, IsExact}
-use Rattle.sc_ledgers.specs.Opening.{AreLedgersOf}
+use Rattle.sc_ledgers.specs.Opening.{everybody, AreLedgersOf}
 use Rattle.sc_ledgers.specs.Whole.{AreWhole}
 use Rattle.sc_ledgers.specs.declared.ledger.Label.{Label}
+use Rattle.sc_ledgers.specs.declared.ledger.TheConstants.{NEVER}
 use Rattle.sc_ledgers.proofs.Changing.{asked-later}
+use Rattle.sc_ledgers.proofs.Placed.{labels-there}
 
 module _ {n : Cohort} {segments : List (List Rejection)} {labels : ℕ → List Label} (well : WellFormed n.papers) (whole : AreWhole n segments labels) where
   asked-by : (t u j s : ℕ) → t < u → u < length segments → HasAskedBy n segments (t + 1) j s → HasAskedBy n segments u j s
@@ -75,12 +77,25 @@ school-kept m lists ledgers are s = at (position (nat_eq s) (schools_of m))
           (subst (HasEachKey []) (sym (get_or_past ledgers p [] (omega (arith, past, are.one_each)))) none)
     ]
 
+-- a turn of the papers comes, as there are fewer students than turns
+pub turns-come : (m : Market) (lists : List (List Label)) (segments : List (List Rejection)) → WellFormed m → WithinLimits m → length lists ≡ length m.schools → AreWhole (cohort m everybody) segments (labels_of m lists) → All (All (λ label. label.turn < NEVER)) lists
+turns-come m lists segments well limits each whole p d low j e here =
+    let (s, is) = labels-there m well p (omega (arith, low, each)) in
+    let label = get_or (get_or lists p d) j e in
+    let among : Contains (get_or lists p d) label = (j, here, get_or_default (get_or lists p d) j label e here) in
+    let turn : label.turn < length segments = whole.turns s label (subst (λ l. Contains l label) (get_or_default lists p d [] low ∙ sym (is lists)) among) in
+    omega (arith, turn, whole.run.one_each, length-map m.students (λ x. x.0), limits.students)
+
 -- the lists before a position have become ledgers, and the others are as they were
 pub record AreLedgersTo (k : ℕ) (lists left ledgers : List (List Label)) : Type 0 where
   pub one_each : length ledgers ≡ k
   pub as_many : length left ≡ length lists
   pub rest : (p : ℕ) → k ≤ p → get_or left p [] ≡ get_or lists p []
   pub kept : (p : ℕ) → p < k → HasEachKey (get_or lists p []) (get_or ledgers p [])
+
+-- the list at the position is as it was
+pub list-there : (k : ℕ) (lists left ledgers : List (List Label)) (list : List Label) → AreLedgersTo k lists left ledgers → k < length left → list ≡ get_or left k list → list ≡ get_or lists k []
+list-there k lists left ledgers list are low is = is ∙ get_or_default left k list [] low ∙ are.rest k (omega arith)
 
 -- so has one more
 pub ledgers-more : (k : ℕ) (lists left ledgers : List (List Label)) (list gone ledger : List Label) → AreLedgersTo k lists left ledgers → k < length left → list ≡ get_or left k list → HasEachKey list ledger → AreLedgersTo (k + 1) lists (slice_set left k gone) (ledgers ++ ledger ∷ [])
@@ -92,7 +107,7 @@ ledgers-more k lists left ledgers list gone ledger are low is has = record {
     | inl earlier ↦ subst (HasEachKey (get_or lists p [])) (sym (get_or_append_left ledgers (ledger ∷ []) [] p (omega (arith, earlier, are.one_each)))) (are.kept p earlier)
     | inr past ↦
         let same : p ≡ k = omega (arith, before, past) in
-        let taken : list ≡ get_or lists p [] = is ∙ get_or_default left k list [] low ∙ are.rest k (omega arith) ∙ ap (λ q. get_or lists q []) (sym same) in
+        let taken : list ≡ get_or lists p [] = list-there k lists left ledgers list are low is ∙ ap (λ q. get_or lists q []) (sym same) in
         subst (HasEachKey (get_or lists p [])) (sym (get_or_push ledgers ledger [] p (omega (arith, same, are.one_each)))) (subst (λ l. HasEachKey l ledger) taken has)
   ];
 }

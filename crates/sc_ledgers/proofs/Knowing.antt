@@ -1,55 +1,20 @@
 -- Labels, one by one.
-use Rattle.std.proofs.Common.{◌≡◌, ◌⊎◌, inl, inr, refl, ap, sym, subst, ◌∙◌, ℕ, zero, suc, ◌+◌, ◌<◌, ◌≤◌, true, false, nat_le, cond, Bool, List, [], ◌∷◌, ◌++◌, length, take, drop, get_or, All, Contains, arith}
+use Rattle.std.proofs.Common.{◌≡◌, ◌⊎◌, inl, inr, ap, sym, subst, ℕ, zero, suc, ◌<◌, ◌≤◌, true, false, nat_le, cond, Bool, List, [], ◌∷◌, ◌++◌, length, take, drop, get_or, All, Contains, arith}
 use Rattle.std.proofs.lemmas.Bool.{cases_lt, cond-true, cond-false}
 use Rattle.std.proofs.lemmas.Bool.Decides.{nat_tests}
-use Rattle.std.proofs.lemmas.List.{length-append}
 use Rattle.std.proofs.lemmas.List.Elements.{All-cons, All-head, All-nil, All-tail}
 use Rattle.sc_papers.specs.Key.{is_before}
 use Rattle.sc_papers.specs.declared.key.Key.{Key}
 use Rattle.sc_papers.proofs.Counting.{contains-cons, contains-head, contains-tail}
 use Rattle.sc_seats.specs.Roll.{IsAscending}
-use Rattle.sc_ledgers.specs.Known.{known, HoldsLast, IsByKey}
+use Rattle.sc_ledgers.specs.Known.{known, IsByKey}
 use Rattle.sc_ledgers.specs.declared.ledger.Label.{Label}
-
--- one more
-pub known-more : (turn : ℕ) (labels : List Label) (at : ℕ) (d : Label) → at < length labels → known turn (take (suc at) labels) ≡ known turn (take at labels) ++ cond (nat_le (get_or labels at d).turn turn) ((get_or labels at d).key ∷ []) []
-known-more turn [] at d low = absurd (omega (arith, low))
-known-more turn (label ∷ labels) zero d low = refl
-known-more turn (label ∷ labels) (suc at) d low =
-    one (nat_le label.turn turn) label.key (known turn (take (suc at) labels)) (known turn (take at labels)) (cond (nat_le (get_or labels at d).turn turn) ((get_or labels at d).key ∷ []) [])
-    (known-more turn labels at d (omega (arith, low)))
-  where
-    one : (b : Bool) (key : Key) (more less last : List Key) → more ≡ less ++ last → cond b (key ∷ more) more ≡ cond b (key ∷ less) less ++ last
-    one true key more less last same = ap (λ l. key ∷ l) same
-    one false key more less last same = same
 
 le_true : (t turn : ℕ) → t ≤ turn → nat_le t turn ≡ true
 le_true t turn low = grind (arith, nat_tests)
 
 le_false : (t turn : ℕ) → turn < t → nat_le t turn ≡ false
 le_false t turn high = grind (arith, nat_tests)
-
--- how many asked up to the turn
-count-more : (turn : ℕ) (labels : List Label) (at : ℕ) (d : Label) → at < length labels → length (known turn (take (at + 1) labels)) ≡ length (known turn (take at labels)) + cond (nat_le (get_or labels at d).turn turn) 1 0
-count-more turn labels at d low =
-    let next : at + 1 ≡ suc at = omega arith in
-    ap (λ n. length (known turn (take n labels))) next
-    ∙ ap length (known-more turn labels at d low)
-    ∙ length-append (known turn (take at labels)) (cond (nat_le (get_or labels at d).turn turn) ((get_or labels at d).key ∷ []) [])
-    ∙ ap (λ n. length (known turn (take at labels)) + n) (length-one (nat_le (get_or labels at d).turn turn) (get_or labels at d).key)
-  where
-    length-one : (b : Bool) (key : Key) → length (cond b (key ∷ []) []) ≡ cond b 1 0
-    length-one true key = refl
-    length-one false key = refl
-
-pub count-one_more : (turn : ℕ) (labels : List Label) (at : ℕ) (d : Label) → at < length labels → (get_or labels at d).turn ≤ turn → length (known turn (take (at + 1) labels)) ≡ length (known turn (take at labels)) + 1
-count-one_more turn labels at d low asked =
-    count-more turn labels at d low
-    ∙ ap (λ n. length (known turn (take at labels)) + n) (cond-true (nat_le (get_or labels at d).turn turn) 1 0 (le_true (get_or labels at d).turn turn asked))
-
-pub count-no_more : (turn : ℕ) (labels : List Label) (at : ℕ) (d : Label) → at < length labels → turn < (get_or labels at d).turn → length (known turn (take (at + 1) labels)) ≡ length (known turn (take at labels))
-count-no_more turn labels at d low later =
-    omega (arith, count-more turn labels at d low, cond-false {A = ℕ} (nat_le (get_or labels at d).turn turn) 1 0 (le_false (get_or labels at d).turn turn later))
 
 -- a label that is known, and its key
 cons-known : (turn : ℕ) (label : Label) (labels : List Label) (key : Key) → Contains (known turn (label ∷ labels)) key → ((label.turn ≤ turn) × (label.key ≡ key)) ⊎ Contains (known turn labels) key
@@ -115,18 +80,3 @@ known-at turn (label ∷ labels) (suc at) d low asked =
     one : (b : Bool) (key : Key) (whole front rest : List Key) → whole ≡ front ++ rest → cond b (key ∷ whole) whole ≡ cond b (key ∷ front) front ++ rest
     one true key whole front rest same = ap (λ l. key ∷ l) same
     one false key whole front rest same = same
-
--- where the last of them stands
-pub holds-last : (turn : ℕ) (labels : List Label) (at seats : ℕ) (d : Label) → at < length labels → (get_or labels at d).turn ≤ turn → length (known turn (take at labels)) + 1 ≡ seats → HoldsLast turn labels seats (get_or labels at d).key
-holds-last turn labels at seats d low asked count = record {
-  front = known turn (take at labels);
-  rest = known turn (drop (suc at) labels);
-  parts = known-at turn labels at d low asked;
-  filled = omega (arith, count);
-}
-
--- and in labels that are the same
-pub holds-here : (turn : ℕ) (labels items whole : List Label) (at seats : ℕ) (d : Label) → labels ≡ items → items ≡ whole → at < length labels → ((e : Label) → (get_or labels at e).turn ≤ turn) → length (known turn (take at labels)) + 1 ≡ seats → d ≡ get_or items at d → HoldsLast turn whole seats d.key
-holds-here turn labels items whole at seats d same again low asked count is =
-    subst (λ l. HoldsLast turn l seats d.key) (same ∙ again)
-    (subst (λ label. HoldsLast turn labels seats label.key) (ap (λ l. get_or l at d) same ∙ sym is) (holds-last turn labels at seats d low (asked d) count))

@@ -4,11 +4,10 @@ use Rattle.std.proofs.lemmas.Bool.{and_parts, cases_lt, eq-eqb}
 use Rattle.std.proofs.lemmas.Bool.Decides.{nat_tests}
 use Rattle.std.proofs.lemmas.List.{drop_all, length-append, length-take-le, take_all, take-append-le, take-take}
 use Rattle.std.proofs.lemmas.List.Edits.{length-remove}
-use Rattle.std.proofs.lemmas.List.Elements.{All-map}
 use Rattle.std.proofs.lemmas.Option.{slice_get-get_or, slice_get_within}
 use Rattle.sc_papers.specs.Market.{Market, schools_of, students_of}
 use Rattle.sc_papers.specs.WellFormed.{WellFormed}
-use Rattle.sc_papers.specs.Key.{is_before, key_of}
+use Rattle.sc_papers.specs.Key.{key_of}
 use Rattle.sc_papers.specs.Log.{next_choice, IsSettled}
 use Rattle.sc_papers.specs.Restriction.{is_among_first, joined}
 use Rattle.sc_papers.specs.Verdict.{after, without_student}
@@ -18,7 +17,6 @@ use Rattle.sc_papers.proofs.Counting.{contains-cons, contains-head, contains-tai
 use Rattle.sc_papers.proofs.Progress.{same-length}
 use Rattle.sc_ledgers.specs.Cohort.{Cohort, cohort, cut}
 use Rattle.sc_ledgers.specs.Course.{labels_at, labels_of}
-use Rattle.sc_ledgers.specs.Known.{IsByKey}
 use Rattle.sc_ledgers.specs.Ledger.{log_at, HasAskedBy, IsExact, StandsAt}
 use Rattle.sc_ledgers.specs.Left.{label_without, turn_without, AreWithout}
 use Rattle.sc_ledgers.specs.Opening.{everybody}
@@ -33,11 +31,6 @@ use Rattle.sc_ledgers.proofs.Without.{but, cut-before, cut-behind, joined-behind
 -- once a loop has passed all items, each was changed
 pub map-over-all : {X : Type 0} (f : X → X) (xs ys : List X) (at : ℕ) → length xs ≤ at → ys ≡ map f (take at xs) ++ drop at xs → ys ≡ map f xs
 map-over-all f xs ys at past is = is ∙ ap (λ l. map f (take at xs) ++ l) (drop_all at xs past) ∙ append-nil (map f (take at xs)) ∙ ap (map f) (take_all at xs past)
-
--- the keys stay
-pub by_key-without : (position : ℕ) (labels : List Label) → IsByKey labels → IsByKey (map (label_without position) labels)
-by_key-without position [] up = up
-by_key-without position (label ∷ labels) up = (All-map (λ later. is_before label.key later.key ≡ true) (label_without position) labels up.0, by_key-without position labels up.1)
 
 -- the labels of each school, by the list of all ledgers
 pub labels-without : (m : Market) (position : ℕ) (ledgers left : List (List Label)) → left ≡ map (map (label_without position)) ledgers → AreWithout position (labels_of m ledgers) (labels_of m left)

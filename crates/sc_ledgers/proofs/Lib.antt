@@ -8,14 +8,15 @@ pub mod Beside
 pub mod Changing
 pub mod Cohorts
 pub mod Coursing
+pub mod Ending
 pub mod Entry
-pub mod Fewer
 pub mod Flagging
 pub mod Held
 pub mod Kept
 pub mod Keying
 pub mod Knowing
 pub mod Leavers
+pub mod Listing
 pub mod Moving
 pub mod Newcomers
 pub mod Opening
@@ -36,7 +37,6 @@ pub mod Staying
 pub mod Stepping
 pub mod Struck
 pub mod Sweeping
-pub mod Tallying
 pub mod TurnPlaces
 pub mod Turning
 pub mod TurnsCounted

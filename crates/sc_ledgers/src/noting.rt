@@ -38,6 +38,8 @@ impl Model for Labels {
 }
 
 impl Labels {
+    ghost use Rattle.std.specs.Prelude.{All, IfOk, ◌<◌};
+    ghost use Rattle.sc_ledgers.specs.declared.ledger.TheConstants.{NEVER};
     /// None. It takes no memory.
     pub(crate) fn new(alloc: Global) -> Self
         ensures { result ≡ [] }
@@ -55,11 +57,12 @@ impl Labels {
         Ok(())
     }
 
-    /// The ledger of these labels, which are then gone. It takes no memory: that of the list is now the ledger's. The cost is a sort.
-    pub(crate) fn take_ledger(&mut self, alloc: Global) -> Ledger
-        ensures { HasEachKey self.old result }
+    /// The ledger of these labels, which are then gone. The only error is a refused growth. The cost is a sort.
+    pub(crate) fn take_ledger(&mut self, alloc: Global) -> Result<Ledger, AllocError>
+        requires turns { All (λ label. label.turn < NEVER) self.old }
+        ensures { IfOk result (HasEachKey self.old) }
     {
-        Ledger::of(replace(&mut self.list, Vec::new(alloc)))
+        Ledger::of(alloc, replace(&mut self.list, Vec::new(alloc)))
     }
 }
 

@@ -1,12 +1,13 @@
 //! The ledgers of a log in segments.
 
-ghost use Rattle.std.specs.Prelude.{◌≡◌, [], All, IfOk, length};
+ghost use Rattle.std.specs.Prelude.{◌≡◌, ◌<◌, [], All, IfOk, length};
 ghost use Rattle.sc_papers.specs.Restriction.{IsSegmented};
 ghost use Rattle.sc_checkpoint.specs.Chains.{logs_in};
 ghost use Rattle.sc_ledgers.specs.Cohort.{cohort};
 ghost use Rattle.sc_ledgers.specs.Course.{labels_of};
 ghost use Rattle.sc_ledgers.specs.Opening.{everybody, AreLedgersOf};
 ghost use Rattle.sc_ledgers.specs.Whole.{AreWhole};
+ghost use Rattle.sc_ledgers.specs.declared.ledger.TheConstants.{NEVER};
 
 use crate::ledger::Ledger;
 use crate::noting::{Labels, note_all};
@@ -26,13 +27,14 @@ fn empty_lists(alloc: Global, count: usize) -> Result<Vec<Labels>, AllocError>
     Ok(lists)
 }
 
-/// A ledger for each list. The labels are not copied: the memory of the lists is now the ledgers'. The cost is a sort of each list.
+/// A ledger for each list, whose memory is given back. The cost is a sort of each list.
 fn ledgers_of(alloc: Global, mut lists: Vec<Labels>) -> Result<Vec<Ledger>, AllocError>
+    requires turns { All (All (λ label. label.turn < NEVER)) lists.items }
     ensures { IfOk result (λ ledgers. AreLedgersOf lists.items ledgers.items) }
 {
     let mut ledgers = Vec::with_capacity(alloc, lists.len())?;
     for position in 0..lists.len() {
-        ledgers.push(lists[position].take_ledger(alloc))?;
+        ledgers.push(lists[position].take_ledger(alloc)?)?;
     }
     Ok(ledgers)
 }

@@ -6,7 +6,6 @@ ghost use Rattle.sc_papers.specs.declared.rejection.Rejection.{Rejection};
 ghost use Rattle.sc_checkpoint.specs.Chains.{logs_in, students_in};
 ghost use Rattle.sc_ledgers.specs.Cohort.{Cohort};
 ghost use Rattle.sc_ledgers.specs.Renewed.{AreTheirs, IsSweeping, IsUnderWay};
-ghost use Rattle.sc_ledgers.specs.Sweep.{AreReady};
 
 use crate::elsewhere::Stances;
 use crate::following::Rows;
@@ -42,14 +41,14 @@ fn take_next(
 ) -> Result<(), AllocError>
     requires one_each { length ledgers.old.items ≡ length rows.now.papers.now.schools }
     requires none { chain.old.items ≡ [] }
-    requires ready { AreReady rows.now.papers.now position marks.old ledgers.old.items }
+    requires flagged { length marks.old.flags ≡ length rows.now.papers.now.schools }
     requires within { position < length segments.now }
     requires sweeping { (m : Cohort) × (reseated : ℕ → Bool) × (test : ℕ → Bool) × (inner : ℕ → Bool)
         × IsSweeping m rows.now reseated test inner (logs_in segments.now) renewal.old position ledgers.old.items stances.old marks.old }
     ensures one_each { length ledgers.new.items ≡ length rows.now.papers.now.schools }
     ensures none { OnOk result (chain.new.items ≡ []) }
     ensures here { OnOk result ((p : ℕ) → Contains renewal.new.positions p → Contains renewal.old.positions p ⊎ (p ≡ position)) }
-    ensures ready { OnOk result (AreReady rows.now.papers.now (position + 1) marks.new ledgers.new.items) }
+    ensures flagged { OnOk result (length marks.new.flags ≡ length rows.now.papers.now.schools) }
     ensures swept { OnOk result ((m : Cohort) (reseated test inner : ℕ → Bool)
         → IsSweeping m rows.now reseated test inner (logs_in segments.now) renewal.old position ledgers.old.items stances.old marks.old
         → test (student_at rows.now.papers.now position) ≡ true
@@ -78,6 +77,7 @@ pub(crate) fn sweep(
     renewal: &mut Renewal,
 ) -> Result<(), AllocError>
     requires one_each { length ledgers.old.items ≡ length rows.now.papers.now.schools }
+    requires flagged { length marks.old.flags ≡ length rows.now.papers.now.schools }
     requires start { (m : Cohort) × (reseated : ℕ → Bool) × (test : ℕ → Bool) × (inner : ℕ → Bool)
         × IsUnderWay m rows.now reseated test inner (logs_in segments.now) renewal.old ledgers.old.items stances.old marks.old positions.now }
     ensures one_each { length ledgers.new.items ≡ length rows.now.papers.now.schools }

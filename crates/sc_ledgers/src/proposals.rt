@@ -7,22 +7,22 @@ ghost use Rattle.sc_checkpoint.specs.Positions.{LieBelow};
 ghost use Rattle.sc_ledgers.specs.Proposals.{choice_after, ends_placed, made_at, made_in};
 
 use sc_checkpoint::Segments;
-use sc_papers::{FlatPapers, MOST_STUDENTS, Rejection};
+use sc_papers::{FlatPapers, MOST_STUDENTS, Rejection, SchoolNo};
 
-/// Whether a student has a choice left after the school that rejected them. The guess is where they may stand in the order of entry:
+/// The choice of a student after the school that rejected them, if there is one. The guess is where they may stand in the order of entry:
 /// if they do, no student is looked up by number, and the answer is the same with any.
-fn has_choice_after(papers: &FlatPapers, guess: usize, entry: &Rejection) -> bool
-    ensures { result ≡ is_some (choice_after papers.now entry.now) }
+pub(crate) fn choice_after(papers: &FlatPapers, guess: usize, entry: &Rejection) -> Option<SchoolNo>
+    ensures { result ≡ choice_after papers.now entry.now }
 {
     let Some(position) = papers.student_position_near(entry.student, guess) else {
-        return false;
+        return None;
     };
     let Some(rank) = papers.choice_rank_at(position, entry.school) else {
-        return false;
+        return None;
     };
     // This call tells that the papers are within their limits, so that a rank can be counted.
     prove!(papers.students_len() <= MOST_STUDENTS);
-    papers.choice_at(position, rank + 1).is_some()
+    papers.choice_at(position, rank + 1)
 }
 
 /// Whether a turn ended in a place, in which the student at a position entered and of which these rejections came. The last of them
@@ -31,7 +31,7 @@ fn ends_placed(papers: &FlatPapers, position: usize, segment: &[Rejection]) -> b
     ensures { result ≡ ends_placed papers.now segment.now }
 {
     match segment.last() {
-        Some(entry) => has_choice_after(papers, position, entry),
+        Some(entry) => choice_after(papers, position, entry).is_some(),
         None => true,
     }
 }

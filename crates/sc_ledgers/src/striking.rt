@@ -4,7 +4,6 @@ ghost use Rattle.std.specs.Prelude.{◌≡◌, ◌<◌, ℕ, Contains, length, s
 ghost use Rattle.sc_papers.specs.Market.{choices_of, student_at};
 ghost use Rattle.sc_papers.specs.declared.rejection.Rejection.{Rejection};
 ghost use Rattle.sc_ledgers.specs.Course.{labels_of, AreGone, AreStruck, HasNone, IsAfter};
-ghost use Rattle.sc_ledgers.specs.Marks.{AreFewer};
 
 use crate::ledger::Ledger;
 use sc_papers::{FlatPapers, MOST_STUDENTS, Rejection};
@@ -14,7 +13,6 @@ fn strike_at(papers: &FlatPapers, ledgers: &mut Vec<Ledger>, turn: u32, student:
     requires within { student < length papers.now.students }
     requires one_each { length ledgers.old.items ≡ length papers.now.schools }
     ensures one_each { length ledgers.new.items ≡ length papers.now.schools }
-    ensures fewer { AreFewer turn ledgers.old.items ledgers.new.items }
     ensures struck { AreStruck turn (labels_of papers.now ledgers.old.items) (labels_of papers.now ledgers.new.items) }
     ensures none { (s : ℕ) → slice_get (choices_of papers.now (student_at papers.now student)) rank ≡ Some s
         → HasNone papers.now turn (student_at papers.now student) s (labels_of papers.now ledgers.new.items) }
@@ -29,7 +27,6 @@ fn strike_at(papers: &FlatPapers, ledgers: &mut Vec<Ledger>, turn: u32, student:
 fn strike_next(papers: &FlatPapers, ledgers: &mut Vec<Ledger>, turn: u32, entry: &Rejection)
     requires one_each { length ledgers.old.items ≡ length papers.now.schools }
     ensures one_each { length ledgers.new.items ≡ length papers.now.schools }
-    ensures fewer { AreFewer turn ledgers.old.items ledgers.new.items }
     ensures struck { AreStruck turn (labels_of papers.now ledgers.old.items) (labels_of papers.now ledgers.new.items) }
     ensures none { (s : ℕ) → IsAfter papers.now entry.now s
         → HasNone papers.now turn entry.now.student s (labels_of papers.now ledgers.new.items) }
@@ -57,7 +54,6 @@ pub fn strike_turn(
     requires within { first < length papers.now.students }
     requires one_each { length ledgers.old.items ≡ length papers.now.schools }
     ensures one_each { length ledgers.new.items ≡ length papers.now.schools }
-    ensures fewer { AreFewer turn ledgers.old.items ledgers.new.items }
     ensures struck { AreStruck turn (labels_of papers.now ledgers.old.items) (labels_of papers.now ledgers.new.items) }
     ensures first { (s : ℕ) → slice_get (choices_of papers.now (student_at papers.now first)) 0 ≡ Some s
         → HasNone papers.now turn (student_at papers.now first) s (labels_of papers.now ledgers.new.items) }

@@ -1,21 +1,23 @@
 //! The turns from the rewind point on, each as it was or taken anew.
 
-ghost use Rattle.std.specs.Prelude.{◌≡◌, ◌<◌, ◌+◌, ℕ, Bool, not, All, IfOk, List, [], get_or, if◌then◌else◌, OnErr, OnOk, Some, true, false, length, slice_get};
+ghost use Rattle.std.specs.Prelude.{◌≡◌, ◌<◌, ◌+◌, ℕ, Bool, not, All, IfOk, List, [], if◌then◌else◌, IfSome, OnErr, OnOk, Some, true, false, length, slice_get};
 ghost use Rattle.sc_papers.specs.Market.{choices_of, student_at};
 ghost use Rattle.sc_papers.specs.declared.rejection.Rejection.{Rejection};
 ghost use Rattle.sc_ledgers.specs.Cohort.{Cohort};
 ghost use Rattle.sc_ledgers.specs.Course.{labels_of, AreTogether, Begins};
 ghost use Rattle.sc_ledgers.specs.Elsewhere.{cohort_of, first_of, is_aside, still_enters, AreAmong, HasPut};
-ghost use Rattle.sc_ledgers.specs.Marks.{marked_in, AreFewer, AreFlagged};
-ghost use Rattle.sc_ledgers.specs.Sweep.{is_amended, AreInRegion, AreReady, HasRun, IsDue, IsNext, IsRegion, IsRetaken, IsTaken};
+ghost use Rattle.sc_ledgers.specs.Marks.{marked_in};
+ghost use Rattle.sc_ledgers.specs.Proposals.{end_of};
+ghost use Rattle.sc_ledgers.specs.Sweep.{is_amended, AreInRegion, HasRun, IsDue, IsNext, IsRegion, IsRetaken, IsTaken};
 
 use crate::chain::run_chain;
 use crate::elsewhere::{Run, Stance, Stances};
 use crate::following::{Rows, follow};
 use crate::ledger::Ledger;
 use crate::marks::Marks;
+use crate::proposals::choice_after;
 use crate::striking::strike_turn;
-use sc_papers::Rejection;
+use sc_papers::{FlatPapers, Rejection, SchoolNo};
 use std::alloc::AllocError;
 
 /// Whether the student at a position does not enter in the new run.
@@ -75,7 +77,6 @@ pub(crate) fn run_turn(
         × (still_enters rows.now (student_at rows.now.papers.now position) ≡ true
         → Begins (cohort_of rows.now) news turn (labels_of rows.now.papers.now ledgers.old.items)) }
     ensures one_each { length ledgers.new.items ≡ length rows.now.papers.now.schools }
-    ensures fewer { OnOk result (AreFewer turn ledgers.old.items ledgers.new.items) }
     ensures kept { OnOk result ((j : ℕ) → is_aside stances.old j ≡ true → is_aside stances.new j ≡ true) }
     ensures left { OnOk result (still_enters rows.now (student_at rows.now.papers.now position) ≡ false
         → (chain.new.items ≡ []) × (ledgers.new.items ≡ ledgers.old.items) × (stances.new ≡ stances.old)) }
@@ -112,7 +113,6 @@ fn retake(
         × IsDue m (cohort_of rows.now) rows.now.amended rows.now.before.now olds news turn i
         (labels_of rows.now.papers.now ledgers.old.items) stances.old }
     ensures one_each { length ledgers.new.items ≡ length rows.now.papers.now.schools }
-    ensures fewer { OnOk result (AreFewer turn ledgers.old.items ledgers.new.items) }
     ensures among { OnOk result ((m : Cohort) (olds news : List (List Rejection)) (i : ℕ) (test inner : ℕ → Bool) → slice_get olds turn ≡ Some old.now
         → IsDue m (cohort_of rows.now) rows.now.amended rows.now.before.now olds news turn i
         (labels_of rows.now.papers.now ledgers.old.items) stances.old
@@ -132,26 +132,34 @@ fn retake(
     Ok(())
 }
 
-/// Whether a turn is as it was: its student is not amended, its segment names no marked school, and nobody came to stand at one in it.
-fn is_still(
-    rows: &Rows<'_>,
-    marks: &Marks,
-    turn: u32,
-    position: usize,
-    segment: &[Rejection],
-) -> bool
+/// The choice at which the chain of a turn ended, in which the student at a position entered and of which these rejections came: that
+/// after the last of them, or the student's first where there is none.
+fn end_of(papers: &FlatPapers, position: usize, segment: &[Rejection]) -> Option<SchoolNo>
+    requires { position < length papers.now.students }
+    ensures { result ≡ end_of papers.now (student_at papers.now position) segment.now }
+{
+    match segment.last() {
+        Some(entry) => choice_after(papers, position, entry),
+        None => papers.choice_at(position, 0),
+    }
+}
+
+/// Whether a turn is as it was: its student is not amended, its segment names no marked school, and it ended at none.
+fn is_still(rows: &Rows<'_>, marks: &Marks, position: usize, segment: &[Rejection]) -> bool
     requires { position < length rows.now.papers.now.students }
     ensures beside { result ≡ true → is_amended rows.now.amended (student_at rows.now.papers.now position) ≡ false }
     ensures unmarked { result ≡ true → All (λ e. marked_in rows.now.papers.now marks.now.flags e.school ≡ false) segment.now }
-    ensures within { result ≡ true → turn < length marks.now.counts }
-    ensures none { result ≡ true → get_or marks.now.counts turn 0 ≡ 0 }
-    ensures flagged { AreFlagged marks.now.places marks.now.flags }
+    ensures unended { result ≡ true → IfSome (end_of rows.now.papers.now (student_at rows.now.papers.now position) segment.now)
+        (λ s. marked_in rows.now.papers.now marks.now.flags s ≡ false) }
 {
-    let quiet = marks.is_quiet(turn);
     let Some(student) = rows.papers.student_at(position) else {
         unreachable!()
     };
-    quiet && rows.amended != Some(student) && !marks.have_any(rows.papers, segment)
+    if rows.amended == Some(student) || marks.have_any(rows.papers, segment) {
+        return false;
+    }
+    let end = end_of(rows.papers, position, segment);
+    !marks.have(rows.papers, end)
 }
 
 /// Takes one turn, in which the student at a position enters and of which these rejections came in the old run: it stays as it was, or
@@ -170,12 +178,12 @@ pub(crate) fn take_turn(
     requires first { position ≡ turn }
     requires one_each { length ledgers.old.items ≡ length rows.now.papers.now.schools }
     requires none { chain.old.items ≡ [] }
-    requires ready { AreReady rows.now.papers.now turn marks.old ledgers.old.items }
+    requires flagged { length marks.old.flags ≡ length rows.now.papers.now.schools }
     requires next { (m : Cohort) × (olds : List (List Rejection)) × (news : List (List Rejection)) × (reseated : ℕ → Bool)
         × IsNext m (cohort_of rows.now) rows.now.amended rows.now.before.now reseated olds news turn old.now
         (labels_of rows.now.papers.now ledgers.old.items) stances.old marks.old }
     ensures one_each { length ledgers.new.items ≡ length rows.now.papers.now.schools }
-    ensures ready { OnOk result (AreReady rows.now.papers.now (turn + 1) marks.new ledgers.new.items) }
+    ensures flagged { OnOk result (length marks.new.flags ≡ length rows.now.papers.now.schools) }
     ensures inside { OnOk result ((m : Cohort) (olds news : List (List Rejection)) (reseated test inner : ℕ → Bool)
         → IsNext m (cohort_of rows.now) rows.now.amended rows.now.before.now reseated olds news turn old.now
         (labels_of rows.now.papers.now ledgers.old.items) stances.old marks.old
@@ -190,10 +198,10 @@ pub(crate) fn take_turn(
         → IsTaken m (cohort_of rows.now) rows.now.amended reseated olds news turn (if anew then chain.new.items else old.now)
         (labels_of rows.now.papers.now ledgers.new.items) stances.new marks.new) }
 {
-    if is_still(rows, marks, turn, position, old) {
+    if is_still(rows, marks, position, old) {
         return Ok(false);
     }
     retake(rows, ledgers, stances, turn, position, old, chain)?;
-    marks.follow(rows.papers, ledgers, stances.as_slice())?;
+    marks.follow(rows.papers, stances.as_slice())?;
     Ok(true)
 }

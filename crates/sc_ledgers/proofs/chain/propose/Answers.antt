@@ -6,7 +6,6 @@ use Rattle.sc_ledgers.specs.Course.{labels_at, labels_of, Came}
 use Rattle.sc_ledgers.specs.Known.{IsAnswer, IsByKey}
 use Rattle.sc_ledgers.specs.declared.ledger.Answer.TheVariants.{PutsOut, Refused, Seated}
 use Rattle.sc_ledgers.proofs.Answering.{student-of-key}
-use Rattle.sc_ledgers.proofs.Fewer.{fewer-at}
 use Rattle.sc_ledgers.proofs.Proposing.{comes, ends-out, ends-seated, goes-put_out, goes-refused, noted-at, seats-here, ledger-here}
 use Rattle.sc_ledgers.proofs.chain.propose.Goals as goal
 
@@ -70,22 +69,6 @@ returns-in_ok-note-in-PutsOut-clause-came c enters new chain labels begins cours
     (c.get.ensures.value ∙ c.unwrap_or-seats.ensures ∙ seats-here m s at c.seats_at.result c.in-Some.ensures.position c.seats_at.ensures)
     c.in-Some.ensures.key
     (subst (λ l. IsAnswer c.args.turn l c.get.result c.in-Some.proposal.key (PutsOut c.in-PutsOut.last)) here c.in-PutsOut.ensures.answer))
-
-pub returns-in_ok-note-in-Seated-clause-fewer : goal.returns-in_ok-note-in-Seated-clause-fewer
-returns-in_ok-note-in-Seated-clause-fewer c =
-    let m = c.args.papers.now in
-    fewer-at c.args.turn c.args.ledgers.now.items c.in-Some.proposal.position c.index_mut.result.now c.note.new.self
-    (sym (ledger-here m c.args.ledgers.now.items c.in-Some.proposal.school c.in-Some.proposal.position c.index_mut.result.now c.in-Some.ensures.position c.requires.one_each c.index_mut.ensures.value
-    ∙ ap (labels_at c.args.ledgers.now.items) c.in-Some.ensures.position))
-    c.in_ok-note-in-Seated.ensures.fewer
-
-pub returns-in_ok-note-in-PutsOut-clause-fewer : goal.returns-in_ok-note-in-PutsOut-clause-fewer
-returns-in_ok-note-in-PutsOut-clause-fewer c =
-    let m = c.args.papers.now in
-    fewer-at c.args.turn c.args.ledgers.now.items c.in-Some.proposal.position c.index_mut-in-PutsOut.result.now c.note-in-PutsOut.new.self
-    (sym (ledger-here m c.args.ledgers.now.items c.in-Some.proposal.school c.in-Some.proposal.position c.index_mut-in-PutsOut.result.now c.in-Some.ensures.position c.requires.one_each c.index_mut-in-PutsOut.ensures.value
-    ∙ ap (labels_at c.args.ledgers.now.items) c.in-Some.ensures.position))
-    c.in_ok-note-in-PutsOut.ensures.fewer
 
 -- the school asked is listed
 listed-at : (xs : List ℕ) (rank s : ℕ) → slice_get xs rank ≡ Some s → Contains xs s

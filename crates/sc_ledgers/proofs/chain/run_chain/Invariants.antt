@@ -5,14 +5,12 @@ use Rattle.sc_papers.specs.Restriction.{joined}
 use Rattle.sc_papers.specs.declared.rejection.Rejection.{Rejection}
 use Rattle.sc_ledgers.specs.Cohort.{cohort}
 use Rattle.sc_ledgers.specs.Course.{labels_of, AreTogether, Begins, Course}
-use Rattle.sc_ledgers.specs.Marks.{AreFewer}
 use Rattle.sc_ledgers.proofs.chain.run_chain.Given as goal
 
 abbrev pub invariant-loop-entry : goal.invariant-loop-entry
 invariant-loop-entry l =
     (l.hand.position < length l.papers.students)
     × (length l.ledgers.items ≡ length l.papers.schools)
-    × AreFewer l.turn l.fn.ledgers.items l.ledgers.items
     × ((enters : ℕ → Bool) (new : List (List Rejection)) (test inner : ℕ → Bool) → Begins (cohort l.papers enters) new l.turn (labels_of l.papers l.fn.ledgers.items)
     → AreTogether l.papers test inner → test (student_at l.papers l.first) ≡ true → (test (student_at l.papers l.hand.position) ≡ true) × All (λ e. test e.student ≡ true) l.chain.items)
     × ((enters : ℕ → Bool) (new : List (List Rejection)) → Begins (cohort l.papers enters) new l.turn (labels_of l.papers l.fn.ledgers.items)

@@ -13,38 +13,34 @@ index-is xs r low = get_or_default xs r 0 (slice_index xs r) low
 index-in : (xs : List ℕ) (r : ℕ) → r < length xs → Contains xs (slice_index xs r)
 index-in xs r low = subst (Contains xs) (sym (index-is xs r low)) (Contains-get_or xs r (slice_index xs r) low)
 
-pub take_next-requires-clause-ready : goal.take_next-requires-clause-ready
-take_next-requires-clause-ready c =
-    let (m, reseated, test, inner, start) = c.requires.start in
-    (underway-at c.args.positions.now c.loop-position.position-index (slice_index c.args.positions.now c.loop-position.position-index) c.loop-position-test.true (index-is c.args.positions.now c.loop-position.position-index c.loop-position-test.true) (c.loop-position.invariant.3 m reseated test inner start)).1
-
 pub take_next-requires-clause-within : goal.take_next-requires-clause-within
 take_next-requires-clause-within c =
     let (m, reseated, test, inner, start) = c.requires.start in
-    omega (arith, (underway-at c.args.positions.now c.loop-position.position-index (slice_index c.args.positions.now c.loop-position.position-index) c.loop-position-test.true (index-is c.args.positions.now c.loop-position.position-index c.loop-position-test.true) (c.loop-position.invariant.3 m reseated test inner start)).0, length-map c.args.segments.now (λ x. x.rejections))
+    omega (arith, (underway-at c.args.positions.now c.loop-position.position-index (slice_index c.args.positions.now c.loop-position.position-index) c.loop-position-test.true (index-is c.args.positions.now c.loop-position.position-index c.loop-position-test.true) (c.loop-position.invariant.4 m reseated test inner start)).0, length-map c.args.segments.now (λ x. x.rejections))
 
 pub take_next-requires-clause-sweeping : goal.take_next-requires-clause-sweeping
 take_next-requires-clause-sweeping c =
     let (m, reseated, test, inner, start) = c.requires.start in
-    let at = underway-at c.args.positions.now c.loop-position.position-index (slice_index c.args.positions.now c.loop-position.position-index) c.loop-position-test.true (index-is c.args.positions.now c.loop-position.position-index c.loop-position-test.true) (c.loop-position.invariant.3 m reseated test inner start) in
-    (m, reseated, test, inner, at.2)
+    let at = underway-at c.args.positions.now c.loop-position.position-index (slice_index c.args.positions.now c.loop-position.position-index) c.loop-position-test.true (index-is c.args.positions.now c.loop-position.position-index c.loop-position-test.true) (c.loop-position.invariant.4 m reseated test inner start) in
+    (m, reseated, test, inner, at.1)
 
 pub loop-position-preserved : goal.loop-position-preserved
 loop-position-preserved c = (
   c.take_next.ensures.one_each,
   c.in_ok-take_next.ensures.none,
+  c.in_ok-take_next.ensures.flagged,
   λ p here. elim (c.in_ok-take_next.ensures.here p here) [
-    | inl before ↦ c.loop-position.invariant.2 p before
+    | inl before ↦ c.loop-position.invariant.3 p before
     | inr now ↦ inr (subst (Contains c.args.positions.now) (sym now) (index-in c.args.positions.now c.loop-position.position-index c.loop-position-test.true))
   ],
   λ m reseated test inner start.
-      let (low, ready, sweeping, passes, turns) = underway-at c.args.positions.now c.loop-position.position-index (slice_index c.args.positions.now c.loop-position.position-index) c.loop-position-test.true (index-is c.args.positions.now c.loop-position.position-index c.loop-position-test.true) (c.loop-position.invariant.3 m reseated test inner start) in
-      ((slice_index c.args.positions.now c.loop-position.position-index) + 1, c.in_ok-take_next.ensures.ready, c.in_ok-take_next.ensures.swept m reseated test inner sweeping passes, turns),
-  λ theirs. c.in_ok-take_next.ensures.owners (c.loop-position.invariant.4 theirs),
+      let (low, sweeping, passes, turns) = underway-at c.args.positions.now c.loop-position.position-index (slice_index c.args.positions.now c.loop-position.position-index) c.loop-position-test.true (index-is c.args.positions.now c.loop-position.position-index c.loop-position-test.true) (c.loop-position.invariant.4 m reseated test inner start) in
+      ((slice_index c.args.positions.now c.loop-position.position-index) + 1, c.in_ok-take_next.ensures.swept m reseated test inner sweeping passes, turns),
+  λ theirs. c.in_ok-take_next.ensures.owners (c.loop-position.invariant.5 theirs),
 )
 
 pub returns-clause-swept : goal.returns-clause-swept
 returns-clause-swept c m reseated test inner start =
     subst (IsUnderWay m c.args.rows.now reseated test inner (logs_in c.args.segments.now) c.loop-position.renewal c.loop-position.ledgers.items c.loop-position.stances c.loop-position.marks)
     (drop_all c.loop-position.position-index c.args.positions.now (omega (arith, c.loop-position-test.false)))
-    (c.loop-position.invariant.3 m reseated test inner start)
+    (c.loop-position.invariant.4 m reseated test inner start)

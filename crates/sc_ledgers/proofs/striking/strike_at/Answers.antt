@@ -3,7 +3,6 @@ use Rattle.std.proofs.lemmas.Option.{same_Some}
 use Rattle.sc_papers.specs.Key.{key_of}
 use Rattle.sc_papers.specs.Market.{student_at}
 use Rattle.sc_ledgers.specs.Course.{labels_at, labels_of}
-use Rattle.sc_ledgers.proofs.Fewer.{fewer-at}
 use Rattle.sc_ledgers.proofs.Proposing.{ledger-here, set-here, struck-at}
 use Rattle.sc_ledgers.proofs.striking.strike_at.Goals as goal
 
@@ -21,11 +20,3 @@ returns-in-Some-clause-none c s listed label here turn key =
     (c.strike_of.ensures.only label (subst (λ l. Contains l label) (ap (labels_of m (slice_set c.args.ledgers.now.items c.in-Some.proposal.position c.strike_of.new.self)) (sym same)
     ∙ set-here m c.args.ledgers.now.items c.in-Some.proposal.school c.in-Some.proposal.position c.strike_of.new.self c.in-Some.ensures.position c.requires.one_each) here)).1
     (key ∙ ap (key_of m (student_at m c.args.student)) (sym same) ∙ sym c.in-Some.ensures.key) turn
-
-pub returns-in-Some-clause-fewer : goal.returns-in-Some-clause-fewer
-returns-in-Some-clause-fewer c =
-    let m = c.args.papers.now in
-    fewer-at c.args.turn c.args.ledgers.now.items c.in-Some.proposal.position c.index_mut.result.now c.strike_of.new.self
-    (sym (ledger-here m c.args.ledgers.now.items c.in-Some.proposal.school c.in-Some.proposal.position c.index_mut.result.now c.in-Some.ensures.position c.requires.one_each c.index_mut.ensures.value
-    ∙ ap (labels_at c.args.ledgers.now.items) c.in-Some.ensures.position))
-    c.strike_of.ensures.fewer

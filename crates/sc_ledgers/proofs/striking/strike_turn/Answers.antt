@@ -2,16 +2,14 @@ use Rattle.std.proofs.Common.{◌≡◌, inl, inr, sym, ap, subst, ◌∙◌, So
 use Rattle.std.proofs.lemmas.Bool.{cases_eq}
 use Rattle.std.proofs.lemmas.Option.{get_or_from_slice_get, slice_get-get_or}
 use Rattle.sc_ledgers.specs.Course.{labels_of, HasNone, IsAfter}
-use Rattle.sc_ledgers.proofs.Fewer.{fewer-then}
 use Rattle.sc_ledgers.proofs.striking.strike_turn.Goals as goal
 
 pub loop-entry-preserved : goal.loop-entry-preserved
 loop-entry-preserved c =
     let m = c.args.papers.now in
-    let (one_each, fewer, struck, first, later) = c.loop-entry.invariant in
+    let (one_each, struck, first, later) = c.loop-entry.invariant in
     let new = labels_of m c.strike_next.new.ledgers.items in (
       c.strike_next.ensures.one_each,
-      fewer-then c.args.turn c.args.ledgers.now.items c.loop-entry.ledgers.items c.strike_next.new.ledgers.items fewer c.strike_next.ensures.fewer,
       record {
         kept = λ s label at other. c.strike_next.ensures.struck.kept s label (struck.kept s label at other) other;
         only = λ s label at. struck.only s label (c.strike_next.ensures.struck.only s label at);
@@ -26,4 +24,4 @@ loop-entry-preserved c =
     )
 
 pub returns-clause-later : goal.returns-clause-later
-returns-clause-later c e s (k, low, at) after = c.loop-entry.invariant.4 k e s (omega (arith, low, c.loop-entry-test.false)) (slice_get-get_or c.args.segment.now k e low ∙ ap Some at) after
+returns-clause-later c e s (k, low, at) after = c.loop-entry.invariant.3 k e s (omega (arith, low, c.loop-entry-test.false)) (slice_get-get_or c.args.segment.now k e low ∙ ap Some at) after

@@ -1,10 +1,19 @@
-use Rattle.std.proofs.Common.{◌≡◌, Bool, not, true, false, refl}
+use Rattle.std.proofs.Common.{◌≡◌, Bool, not, true, false, refl, IfSome, Option, None, Some, ℕ, sym, subst, ◌∙◌}
 use Rattle.std.proofs.lemmas.Bool.{false≢true}
+use Rattle.sc_ledgers.specs.Marks.{marked_in}
 use Rattle.sc_ledgers.proofs.sweep.is_still.Goals as goal
 
-not-any : (b : Bool) → not b ≡ true → b ≡ false
-not-any true is = absurd (false≢true is)
-not-any false is = refl
+not-true : (b : Bool) → not b ≡ true → b ≡ false
+not-true true is = absurd (false≢true is)
+not-true false is = refl
 
-pub returns-then-ne-clause-unmarked : goal.returns-then-ne-clause-unmarked
-returns-then-ne-clause-unmarked c is = c.have_any.ensures (not-any c.have_any.result is)
+-- what is told of a school, if there is one
+fails : (found : Option ℕ) (test : ℕ → Bool) (b : Bool) → IfSome found (λ s. b ≡ test s) → b ≡ false → IfSome found (λ s. test s ≡ false)
+fails None test b told is = tt
+fails (Some s) test b told is = sym told ∙ is
+
+pub returns-clause-unended : goal.returns-clause-unended
+returns-clause-unended c is =
+    let n = c.args.rows.now.papers.now in
+    subst (λ found. IfSome found (λ s. marked_in n c.args.marks.now.flags s ≡ false)) c.end_of-end.ensures
+    (fails c.end_of-end.result (marked_in n c.args.marks.now.flags) c.have.result c.have.ensures (not-true c.have.result is))

@@ -1,12 +1,12 @@
-use Rattle.std.proofs.Common.{◌≡◌, sym, subst, ℕ, ◌+◌, ◌<◌, [], ◌∷◌, ◌++◌, Some, get_or, length, slice_get, arith}
+use Rattle.std.proofs.Common.{◌≡◌, sym, subst, ℕ, ◌+◌, ◌<◌, [], ◌∷◌, ◌++◌, Some, IfSome, true, get_or, length, slice_get, arith}
 use Rattle.std.proofs.lemmas.List.{length-map}
 use Rattle.std.proofs.lemmas.Option.{slice_get-get_or}
 use Rattle.sc_papers.specs.Market.{Market, schools_of, student_at, students_of}
 use Rattle.sc_papers.specs.Restriction.{joined}
 use Rattle.sc_ledgers.specs.Ledger.{log_at}
-use Rattle.sc_ledgers.specs.Marks.{marked_in, HaveCounts, IsNamed, MarksFollow}
+use Rattle.sc_ledgers.specs.Marks.{marked_in, IsNamed, MarksFollow}
 use Rattle.sc_ledgers.proofs.Sweeping.{due-of, stays-of, swept-anew, swept-stays}
-use Rattle.sc_ledgers.proofs.Turning.{at-marked, counts-retaken, named-inner, named-known, nobody-marked, ready-retaken, ready-still, segment-inside, throughout-follow, turn-within}
+use Rattle.sc_ledgers.proofs.Turning.{at-marked, named-inner, named-known, nobody-marked, segment-inside, throughout-follow, turn-within}
 use Rattle.sc_ledgers.proofs.sweep.take_turn.Goals as goal
 
 student-here : (n : Market) (position k : ℕ) → position ≡ k → k < length (students_of n) → slice_get (students_of n) k ≡ Some (student_at n position)
@@ -17,9 +17,6 @@ is_still-requires c =
     let (m, olds, news, reseated, next) = c.requires.next in
     omega (arith, turn-within next, c.requires.first, length-map c.args.rows.now.papers.now.students (λ e. e.0))
 
-pub returns-then-is_still-clause-ready : goal.returns-then-is_still-clause-ready
-returns-then-is_still-clause-ready c = ready-still c.args.rows.now.papers.now c.args.turn c.args.marks.now c.args.ledgers.now.items c.requires.ready
-
 pub returns-then-is_still-clause-taken : goal.returns-then-is_still-clause-taken
 returns-then-is_still-clause-taken c m olds news reseated next =
     let n = c.args.rows.now.papers.now in
@@ -28,7 +25,7 @@ returns-then-is_still-clause-taken c m olds news reseated next =
     let still = c.if-is_still.true in
     record {
       swept = swept-stays (stays-of next.both next.swept (student_at n c.args.position) c.args.old.now (student-here n c.args.position k c.requires.first (turn-within next)) (c.is_still.ensures.beside still) next.here (c.is_still.ensures.unmarked still)
-          (nobody-marked n marks c.args.ledgers.now.items k c.is_still.ensures.flagged (c.is_still.ensures.none still) (c.is_still.ensures.within still) c.requires.ready.covers)) next.swept;
+          (nobody-marked next.both next.swept (student_at n c.args.position) c.args.old.now (student-here n c.args.position k c.requires.first (turn-within next)) (c.is_still.ensures.beside still) next.here (c.is_still.ensures.unmarked still) (c.is_still.ensures.unended still))) next.swept;
       throughout = next.throughout;
     }
 
@@ -37,18 +34,6 @@ retake-requires-clause-due c =
     let n = c.args.rows.now.papers.now in
     let (m, olds, news, reseated, next) = c.requires.next in
     (m, olds, news, student_at n c.args.position, next.here, due-of next.both next.swept (student_at n c.args.position) (student-here n c.args.position c.args.turn c.requires.first (turn-within next)))
-
-pub follow-requires-clause-counts : goal.follow-requires-clause-counts
-follow-requires-clause-counts c =
-    let n = c.args.rows.now.papers.now in
-    let k : ℕ = c.args.turn in
-    let (m, olds, news, reseated, next) = c.requires.next in
-    let i : ℕ = student_at n c.args.position in
-    let due = due-of next.both next.swept i (student-here n c.args.position k c.requires.first (turn-within next)) in
-    let done = c.in_ok-retake.ensures.retaken m olds news i next.here due in
-    subst (HaveCounts c.args.marks.now) (sym c.deref.ensures.value)
-    (counts-retaken n c.args.marks.now c.args.ledgers.now.items c.retake.new.ledgers.items k next.both.well_n c.requires.one_each c.retake.ensures.one_each
-    (λ s label here other. done.ended.relabels.others s label here other) (omega (arith, turn-within next, c.requires.ready.many)) c.requires.ready.counts)
 
 pub follow-requires-clause-known : goal.follow-requires-clause-known
 follow-requires-clause-known c =
@@ -60,19 +45,6 @@ follow-requires-clause-known c =
     let done = c.in_ok-retake.ensures.retaken m olds news i next.here due in
     λ s named. named-known next.both (k + 1) (log_at olds (k + 1)) (joined (news ++ c.retake.new.chain.items ∷ [])) c.retake.new.stances done.stances s (subst (λ list. IsNamed list s) c.as_slice.ensures.value named)
 
-pub returns-clause-ready : goal.returns-clause-ready
-returns-clause-ready c =
-    let n = c.args.rows.now.papers.now in
-    let k : ℕ = c.args.turn in
-    let (m, olds, news, reseated, next) = c.requires.next in
-    let i : ℕ = student_at n c.args.position in
-    let due = due-of next.both next.swept i (student-here n c.args.position k c.requires.first (turn-within next)) in
-    let done = c.in_ok-retake.ensures.retaken m olds news i next.here due in
-    ready-retaken n k c.as_slice.result.now c.args.marks.now c.follow.new.self c.args.ledgers.now.items c.retake.new.ledgers.items c.requires.ready
-    (counts-retaken n c.args.marks.now c.args.ledgers.now.items c.retake.new.ledgers.items k next.both.well_n c.requires.one_each c.retake.ensures.one_each
-    (λ s label here other. done.ended.relabels.others s label here other) (omega (arith, turn-within next, c.requires.ready.many)) c.requires.ready.counts)
-    c.in_ok-retake.ensures.fewer (subst (MarksFollow n c.as_slice.result.now c.args.marks.now c.follow.new.self) c.deref.ensures.value c.in_ok-follow.ensures.follows)
-
 pub returns-clause-taken : goal.returns-clause-taken
 returns-clause-taken c m olds news reseated next =
     let n = c.args.rows.now.papers.now in
@@ -80,10 +52,10 @@ returns-clause-taken c m olds news reseated next =
     let i : ℕ = student_at n c.args.position in
     let due = due-of next.both next.swept i (student-here n c.args.position k c.requires.first (turn-within next)) in
     let done = c.in_ok-retake.ensures.retaken m olds news i next.here due in
-    let follows = subst (λ list. MarksFollow n list c.args.marks.now c.follow.new.self c.retake.new.ledgers.items) c.as_slice.ensures.value (subst (MarksFollow n c.as_slice.result.now c.args.marks.now c.follow.new.self) c.deref.ensures.value c.in_ok-follow.ensures.follows) in
-    let through = throughout-follow n c.retake.new.stances c.args.marks.now c.follow.new.self c.retake.new.ledgers.items reseated follows next.throughout next.swept.always in
+    let follows = subst (λ list. MarksFollow n list c.args.marks.now c.follow.new.self) c.as_slice.ensures.value c.in_ok-follow.ensures.follows in
+    let through = throughout-follow n c.retake.new.stances c.args.marks.now c.follow.new.self reseated follows next.throughout in
     record {
-      swept = swept-anew next.swept due done (marked_in n c.follow.new.self.flags) (at-marked n c.retake.new.stances c.args.marks.now c.follow.new.self c.retake.new.ledgers.items follows) through.always;
+      swept = swept-anew next.swept due done (marked_in n c.follow.new.self.flags) (at-marked n c.retake.new.stances c.args.marks.now c.follow.new.self follows) through.always;
       throughout = through.still;
     }
 
@@ -95,9 +67,10 @@ returns-clause-inside c m olds news reseated test inner next region passes insid
     let here = student-here n c.args.position k c.requires.first (turn-within next) in
     let due = due-of next.both next.swept i here in
     let done = c.in_ok-retake.ensures.retaken m olds news i next.here due in
-    let follows = subst (λ list. MarksFollow n list c.args.marks.now c.follow.new.self c.retake.new.ledgers.items) c.as_slice.ensures.value (subst (MarksFollow n c.as_slice.result.now c.args.marks.now c.follow.new.self) c.deref.ensures.value c.in_ok-follow.ensures.follows) in
+    let follows = subst (λ list. MarksFollow n list c.args.marks.now c.follow.new.self) c.as_slice.ensures.value c.in_ok-follow.ensures.follows in
     let among = c.in_ok-retake.ensures.among m olds news i test inner next.here due region.new passes (segment-inside test inner next.both region.old k i c.args.old.now due.here_m next.here passes) inside.among in
     record {
       among = among;
-      marked = follows.passes (λ p. inner (get_or (schools_of n) p 0)) (named-inner next.both region (k + 1) (log_at olds (k + 1)) (joined (news ++ c.retake.new.chain.items ∷ [])) c.retake.new.stances done.stances among) inside.marked;
+      marked = follows.passes (λ p. inner (get_or (schools_of n) p 0)) inside.one (named-inner next.both region (k + 1) (log_at olds (k + 1)) (joined (news ++ c.retake.new.chain.items ∷ [])) c.retake.new.stances done.stances among);
+      one = subst (λ found. IfSome found (λ p. inner (get_or (schools_of n) p 0) ≡ true)) (sym follows.always) inside.one;
     }

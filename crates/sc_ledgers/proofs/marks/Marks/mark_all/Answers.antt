@@ -15,17 +15,16 @@ if-some (Some s) P all = all s refl
 pub loop-stance-preserved : goal.loop-stance-preserved
 loop-stance-preserved c =
     let m = c.args.papers.now in
-    let ledgers = c.args.ledgers.now in
     let now = c.mark_school-in-loop-stance.new.self in
     let first = c.in_ok-mark_school.ensures.more in
     let then = c.in_ok-mark_school-2.ensures.more in (
-      more-then c.args.self.now c.loop-stance.self now ledgers c.loop-stance.invariant.0 (more-then c.loop-stance.self c.mark_school.new.self now ledgers first then),
+      more-then c.args.self.now c.loop-stance.self now c.loop-stance.invariant.0 (more-then c.loop-stance.self c.mark_school.new.self now first then),
       λ j x s low at stands. elim (cases_eq j c.loop-stance.stance-index) [
-        | inr other ↦ marked-still m c.loop-stance.self now ledgers (more-then c.loop-stance.self c.mark_school.new.self now ledgers first then) s (c.loop-stance.invariant.1 j x s (omega (arith, low, other)) at stands)
+        | inr other ↦ marked-still m c.loop-stance.self now (more-then c.loop-stance.self c.mark_school.new.self now first then) s (c.loop-stance.invariant.1 j x s (omega (arith, low, other)) at stands)
         | inl same ↦
             let is : c.stance-item.result ≡ x = c.stance-item.is ∙ ap (λ k. get_or c.args.stances.now k c.stance-item.result) (sym same) ∙ get_or_from_slice_get c.args.stances.now j x c.stance-item.result at in
             elim stands [
-              | inl old ↦ marked-still m c.mark_school.new.self now ledgers then s (subst (λ o. IfSome o (λ t. marked_in m c.mark_school.new.self.flags t ≡ true)) (ap (λ (z : Stance). z.old) is ∙ old) c.in_ok-mark_school.ensures.marked)
+              | inl old ↦ marked-still m c.mark_school.new.self now then s (subst (λ o. IfSome o (λ t. marked_in m c.mark_school.new.self.flags t ≡ true)) (ap (λ (z : Stance). z.old) is ∙ old) c.in_ok-mark_school.ensures.marked)
               | inr new ↦ subst (λ o. IfSome o (λ t. marked_in m now.flags t ≡ true)) (ap (λ (z : Stance). z.new) is ∙ new) c.in_ok-mark_school-2.ensures.marked
             ]
       ],

@@ -1,4 +1,4 @@
-use Rattle.std.proofs.Common.{◌≡◌, ℕ, Some, true, nat_eq, position, sym, subst, ◌∙◌, Contains}
+use Rattle.std.proofs.Common.{sym, subst, ◌∙◌, Contains}
 use Rattle.std.specs.Prelude.{IfSome}
 use Rattle.sc_papers.specs.Market.{schools_of}
 use Rattle.sc_papers.proofs.Hands.{school-has_position}
@@ -9,8 +9,3 @@ pub unreachable-requires : goal.unreachable-requires
 unreachable-requires c =
     let m = c.args.papers.now in
     school-has_position m c.in-Some.number (among-school m c.in-Some.number (subst (λ o. IfSome o (λ s. Contains (schools_of m) s)) c.in-Some.is c.requires.known)) (sym c.in_default-school_position.is ∙ c.school_position.ensures)
-
-pub returns-clause-passes : goal.returns-clause-passes
-returns-clause-passes c test at before =
-    c.in_ok-mark.ensures.passes test
-    (subst (λ o. IfSome o (λ s. (p : ℕ) → position (nat_eq s) (schools_of c.args.papers.now) ≡ Some p → test p ≡ true)) c.in-Some.is at c.in-Some-school_position.place (sym c.in-Some-school_position.ensures)) before

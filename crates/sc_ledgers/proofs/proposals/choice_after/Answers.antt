@@ -1,15 +1,15 @@
-use Rattle.std.proofs.Common.{◌==◌, None, Some, sym, ap, ◌∙◌, is_some, arith}
+use Rattle.std.proofs.Common.{◌==◌, None, Some, sym, ◌∙◌, arith}
 use Rattle.std.proofs.lemmas.List.Quantifiers.{position-Some}
 use Rattle.sc_papers.specs.Market.{choices_of, student_at}
 use Rattle.sc_papers.proofs.Students.{choices-short}
 use Rattle.sc_ledgers.proofs.TurnsCounted.{after-at, unknown-after}
-use Rattle.sc_ledgers.proofs.proposals.has_choice_after.Goals as goal
+use Rattle.sc_ledgers.proofs.proposals.choice_after.Goals as goal
 
 pub returns-in_default : goal.returns-in_default
-returns-in_default c = ap is_some (sym (unknown-after c.args.papers.now c.args.entry.now (sym c.in_default.ensures)))
+returns-in_default c = sym (unknown-after c.args.papers.now c.args.entry.now (sym c.in_default.ensures))
 
 pub returns-in_default-choice_rank_at : goal.returns-in_default-choice_rank_at
-returns-in_default-choice_rank_at c = ap is_some (sym (after-at c.args.papers.now c.args.entry.now c.in-Some.position None (sym c.in-Some.ensures) c.in_default-choice_rank_at.ensures))
+returns-in_default-choice_rank_at c = sym (after-at c.args.papers.now c.args.entry.now c.in-Some.position None (sym c.in-Some.ensures) c.in_default-choice_rank_at.ensures)
 
 pub overflow_add-rank : goal.overflow_add-rank
 overflow_add-rank c =
@@ -22,6 +22,4 @@ overflow_add-rank c =
     )
 
 pub returns : goal.returns
-returns c =
-    c.is_some.ensures
-    ∙ ap is_some (c.choice_at.ensures ∙ sym (after-at c.args.papers.now c.args.entry.now c.in-Some.position (Some c.in-Some-choice_rank_at.rank) (sym c.in-Some.ensures) c.in-Some-choice_rank_at.ensures))
+returns c = c.choice_at.ensures ∙ sym (after-at c.args.papers.now c.args.entry.now c.in-Some.position (Some c.in-Some-choice_rank_at.rank) (sym c.in-Some.ensures) c.in-Some-choice_rank_at.ensures)
