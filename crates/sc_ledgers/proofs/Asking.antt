@@ -75,10 +75,3 @@ asks-given m well log hand k s labels asking sorted own apart = record {
         label-known k (labels s) (record { key = key_of m j s; turn = found.0 }) found.2 found.1;
   };
 }
-
--- the label at which a school is filled
-pub filled-at : (m : Market) (log : List Rejection) (hand k s : ℕ) (labels : List Label) (at : ℕ) (d : Label) → Given m log hand s (known k labels) → at < length labels → (get_or labels at d).turn ≤ k → length (known k (take at labels)) + 1 ≡ seats_of m s → Filled m log hand s (known k (take at labels)) (get_or labels at d).key (known k (drop (suc at) labels))
-filled-at m log hand k s labels at d given low asked seats = record {
-  given = subst (Given m log hand s) (known-at k labels at d low asked) given;
-  seats = omega (arith, seats);
-}

@@ -59,9 +59,16 @@ not-yet n k i well here = ap (λ b. b && n.enters i) (new-student n.papers k i w
 pub not_now : (t u : ℕ) → (t ≡ u → ⊥) → t ≤ u → t < u
 not_now t u apart low = elim (cases_lt t u) [ inl less ↦ less | inr more ↦ absurd (apart (omega (arith, low, more))) ]
 
--- a chain begins
-pub begins-asking : (n : Cohort) (new : List (List Rejection)) (k i : ℕ) (labels : ℕ → List Label) → WellFormed n.papers → slice_get (students_of n.papers) k ≡ Some i → n.enters i ≡ true → IsRunTo n k new → length new ≡ k → AreLabelsBefore n new k labels → ((s : ℕ) (label : Label) → Contains (labels s) label → label.turn ≡ k → ⊥) → IsAsking (cut n (k + 1)) (joined new) i k labels
-begins-asking n new k i labels well here turn newer as_many before none =
+-- who has a label of a turn before has asked the school by now
+pub asked-by : (n : Cohort) (new : List (List Rejection)) (k i : ℕ) (labels : ℕ → List Label) → WellFormed n.papers → slice_get (students_of n.papers) k ≡ Some i → IsRunTo n k new → length new ≡ k → AreLabelsBefore n new k labels → (s : ℕ) (label : Label) → Contains (labels s) label → label.turn < k → HasAskedBy n new k label.key.student s
+asked-by n new k i labels well here newer as_many before s label at earlier =
+    let after : ℕ = label.turn + 1 in
+    subst (λ u. HasAskedBy n new u label.key.student s) (omega (arith, earlier))
+    (asked-later n new k well newer as_many (omega (arith, slice_get_within (students_of n.papers) k i here)) after (k - after) (omega (arith, earlier)) label.key.student s (before.exact s label at earlier).asked)
+
+-- a chain begins, by the labels up to a turn, all of which are of turns before
+pub asks-from : (n : Cohort) (new : List (List Rejection)) (k i t : ℕ) (labels : ℕ → List Label) → WellFormed n.papers → slice_get (students_of n.papers) k ≡ Some i → n.enters i ≡ true → IsRunTo n k new → length new ≡ k → AreLabelsBefore n new k labels → k ≤ t + 1 → ((s : ℕ) (label : Label) → Contains (labels s) label → label.turn ≤ t → label.turn < k) → IsAsking (cut n (k + 1)) (joined new) i t labels
+asks-from n new k i t labels well here turn newer as_many before enough earlier =
     let small = first-students n k well in
     let large = first-students n (k + 1) well in
     let wider : (j : ℕ) → has_entered n k j ≡ true → has_entered n (k + 1) j ≡ true = λ j kept. entered-more n k i j here kept in
@@ -70,10 +77,7 @@ begins-asking n new k i labels well here turn newer as_many before none =
       chain = subst (λ p. InChain p (joined new) i) (sym (cut-one n k i here turn)) (chain-begins n.papers (has_entered n k) i (joined new) (subst (λ p. IsSettled p (joined new)) (cut-entered n k) settled));
       stays = others-begin small large wider (joined new) i (not-yet n k i well here) settled.valid;
       asked = λ s label at low.
-          let earlier : label.turn < k = not_now label.turn k (none s label at) low in
-          let found = before.exact s label at earlier in
-          let later : HasAskedBy n new (label.turn + 1 + (k - (label.turn + 1))) label.key.student s = asked-later n new k well newer as_many (omega (arith, slice_get_within (students_of n.papers) k i here)) (label.turn + 1) (k - (label.turn + 1)) (omega (arith, earlier)) label.key.student s found.asked in
-          let by_k : HasAskedBy n new k label.key.student s = subst (λ u. HasAskedBy n new u label.key.student s) (omega (arith, earlier)) later in
+          let by_k = asked-by n new k i labels well here newer as_many before s label at (earlier s label at low) in
           elim (subst (λ l. HasAsked (cut n k) l label.key.student s) (log-new new k as_many) by_k) [
             | inl next ↦ inl (next-with n k i well here (joined new) label.key.student s next)
             | inr rejected ↦ inr rejected
@@ -81,5 +85,10 @@ begins-asking n new k i labels well here turn newer as_many before none =
       standing = λ j s next other.
           let there : StandsAt n new k j s = subst (λ l. next_choice (cut n k) l j ≡ Some s) (sym (log-new new k as_many)) (next-without n k i well here (joined new) j s other next) in
           let found = before.standing k j s (omega arith) there in
-          (found.0, omega (arith, found.1), subst (λ key. Contains (labels s) (record { key = key; turn = found.0 })) (sym (key-first n (k + 1) j s s (joined new) well next)) found.2);
+          (found.0, omega (arith, found.1, enough), subst (λ key. Contains (labels s) (record { key = key; turn = found.0 })) (sym (key-first n (k + 1) j s s (joined new) well next)) found.2);
     }
+
+-- where no label is of this turn
+pub begins-asking : (n : Cohort) (new : List (List Rejection)) (k i : ℕ) (labels : ℕ → List Label) → WellFormed n.papers → slice_get (students_of n.papers) k ≡ Some i → n.enters i ≡ true → IsRunTo n k new → length new ≡ k → AreLabelsBefore n new k labels → ((s : ℕ) (label : Label) → Contains (labels s) label → label.turn ≡ k → ⊥) → IsAsking (cut n (k + 1)) (joined new) i k labels
+begins-asking n new k i labels well here turn newer as_many before none =
+    asks-from n new k i k labels well here turn newer as_many before (omega arith) (λ s label at low. not_now label.turn k (none s label at) low)

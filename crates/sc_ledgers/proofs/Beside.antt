@@ -1,5 +1,5 @@
--- A segment that names no marked school stays where two logs agree beside the marked schools.
-use Rattle.std.proofs.Common.{◌≡◌, inl, inr, ap, sym, subst, ◌∙◌, ℕ, ◌≤◌, Bool, true, false, not, ◌&&◌, ◌||◌, List, [], ◌∷◌, ◌++◌, Some, All, find, append_assoc, append-nil, arith}
+-- A segment that the new run makes too stays where two logs agree beside the marked schools.
+use Rattle.std.proofs.Common.{◌≡◌, ◌⊎◌, inl, inr, ap, sym, subst, ◌∙◌, ℕ, ◌≤◌, Bool, true, false, not, ◌&&◌, ◌||◌, List, [], ◌∷◌, ◌++◌, Some, All, find, append_assoc, append-nil, arith}
 use Rattle.std.proofs.lemmas.Bool.{cases_Bool, and_parts, and_from, false_from_ne_true, false≢true}
 use Rattle.std.proofs.lemmas.List.Elements.{All-head, All-tail}
 use Rattle.sc_papers.specs.Market.{Market, choices_of, seats_of}
@@ -13,7 +13,7 @@ use Rattle.sc_papers.proofs.Standings.{valid-join, valid-rest}
 use Rattle.sc_papers.proofs.Students.{how_many-le}
 use Rattle.sc_papers.proofs.Subsets.{next-passes, valid-grows}
 use Rattle.sc_papers.proofs.Validity.{next-listed}
-use Rattle.sc_ledgers.specs.Ledger.{AgreeBeside, AlikeBeside}
+use Rattle.sc_ledgers.specs.Ledger.{AgreeBeside, AlikeBeside, AreMadeToo}
 
 -- whoever is not aside has the same next choice
 pub next-beside : {m n : Market} {log other : List Rejection} {marked aside : ℕ → Bool} → AlikeBeside m n marked aside → AgreeBeside m n log other marked aside → (j : ℕ) → aside j ≡ false → next_choice n other j ≡ next_choice m log j
@@ -34,7 +34,7 @@ count-beside : {m n : Market} {marked aside : ℕ → Bool} → AlikeBeside m n 
 count-beside {m} {n} papers p q beside passes = omega (arith, papers.counts p beside, how_many-le n p q passes)
 
 -- an entry at a school that is not marked
-entry-beside : {m n : Market} {log other : List Rejection} {marked aside : ℕ → Bool} → AlikeBeside m n marked aside → AgreeBeside m n log other marked aside → (e : Rejection) → marked e.school ≡ false → IsValidEntry m log e → IsValidEntry n other e
+pub entry-beside : {m n : Market} {log other : List Rejection} {marked aside : ℕ → Bool} → AlikeBeside m n marked aside → AgreeBeside m n log other marked aside → (e : Rejection) → marked e.school ≡ false → IsValidEntry m log e → IsValidEntry n other e
 entry-beside {m} {n} {log} {other} {marked} {aside} papers logs e unmarked valid =
     let s : ℕ = e.school in
     let own : aside e.student ≡ false = stands-beside logs e.student s unmarked valid.next in
@@ -50,10 +50,20 @@ entry-beside {m} {n} {log} {other} {marked} {aside} papers logs e unmarked valid
       full = omega (arith, papers.seats s unmarked, valid.full, count-beside papers (λ j. has (matching_of m log) s j && is_ahead m s j e.student) (λ j. has (matching_of n other) s j && is_ahead n s j e.student) none_aside rival);
     }
 
--- and the logs agree after it
-pub agree-after : {m n : Market} {log other : List Rejection} {marked aside : ℕ → Bool} → AgreeBeside m n log other marked aside → (e : Rejection) → marked e.school ≡ false → IsValidEntry m log e → AgreeBeside m n (log ++ e ∷ []) (other ++ e ∷ []) marked aside
-agree-after {m} {n} {log} {other} {marked} {aside} logs e unmarked valid =
-    let apart : (j : ℕ) → aside j ≡ true → e.student ≡ j → ⊥ = λ j is same. false≢true (sym (ap aside (sym same) ∙ stands-beside logs e.student e.school unmarked valid.next) ∙ is) in
+-- an entry that the new run makes too is of one who is not aside
+pub made-own : {m n : Market} {log other : List Rejection} {marked aside : ℕ → Bool} → AgreeBeside m n log other marked aside → (e : Rejection) → (marked e.school ≡ false) ⊎ ((aside e.student ≡ false) × IsValidEntry n other e) → IsValidEntry m log e → aside e.student ≡ false
+made-own logs e (inl unmarked) valid = stands-beside logs e.student e.school unmarked valid.next
+made-own logs e (inr made) valid = made.0
+
+-- and valid there
+made-valid : {m n : Market} {log other : List Rejection} {marked aside : ℕ → Bool} → AlikeBeside m n marked aside → AgreeBeside m n log other marked aside → (e : Rejection) → (marked e.school ≡ false) ⊎ ((aside e.student ≡ false) × IsValidEntry n other e) → IsValidEntry m log e → IsValidEntry n other e
+made-valid papers logs e (inl unmarked) valid = entry-beside papers logs e unmarked valid
+made-valid papers logs e (inr made) valid = made.1
+
+-- the logs agree after an entry of one who is not aside
+pub agree-after : {m n : Market} {log other : List Rejection} {marked aside : ℕ → Bool} → AgreeBeside m n log other marked aside → (e : Rejection) → aside e.student ≡ false → AgreeBeside m n (log ++ e ∷ []) (other ++ e ∷ []) marked aside
+agree-after {m} {n} {log} {other} {marked} {aside} logs e own =
+    let apart : (j : ℕ) → aside j ≡ true → e.student ≡ j → ⊥ = λ j is same. false≢true (sym (ap aside (sym same) ∙ own) ∙ is) in
     record {
       alike = λ j s beside. rejected-push other e j s ∙ ap (λ b. b || is_of e j s) (logs.alike j s beside) ∙ sym (rejected-push log e j s);
       old = λ j s is next. logs.old j s is (sym (next-same m log e j (apart j is)) ∙ next);
@@ -61,28 +71,38 @@ agree-after {m} {n} {log} {other} {marked} {aside} logs e unmarked valid =
     }
 
 -- whoever is aside stands where they stood
-still-after : {m n : Market} {log other : List Rejection} {marked aside : ℕ → Bool} → AgreeBeside m n log other marked aside → (e : Rejection) → marked e.school ≡ false → IsValidEntry m log e → (j : ℕ) → aside j ≡ true → next_choice n (other ++ e ∷ []) j ≡ next_choice n other j
-still-after {n = n} {other = other} {aside = aside} logs e unmarked valid j is =
-    next-same n other e j (λ same. false≢true (sym (ap aside (sym same) ∙ stands-beside logs e.student e.school unmarked valid.next) ∙ is))
+still-after : (n : Market) (other : List Rejection) (aside : ℕ → Bool) (e : Rejection) → aside e.student ≡ false → (j : ℕ) → aside j ≡ true → next_choice n (other ++ e ∷ []) j ≡ next_choice n other j
+still-after n other aside e own j is = next-same n other e j (λ same. false≢true (sym (ap aside (sym same) ∙ own) ∙ is))
 
-pub still-aside : {m n : Market} {log other : List Rejection} {marked aside : ℕ → Bool} → AgreeBeside m n log other marked aside → (rest : List Rejection) → All (λ e. marked e.school ≡ false) rest → IsValidAfter m log rest → (j : ℕ) → aside j ≡ true → next_choice n (other ++ rest) j ≡ next_choice n other j
-still-aside {n = n} {other = other} logs [] unmarked valid j is = ap (λ l. next_choice n l j) (append-nil other)
-still-aside {n = n} {other = other} {marked = marked} logs (e ∷ rest) unmarked valid j is =
-    let first : marked e.school ≡ false = All-head (λ x. marked x.school ≡ false) e rest unmarked in
+pub still-aside : {m n : Market} {log other : List Rejection} {marked aside : ℕ → Bool} → AgreeBeside m n log other marked aside → (rest : List Rejection) → AreMadeToo n marked aside other rest → IsValidAfter m log rest → (j : ℕ) → aside j ≡ true → next_choice n (other ++ rest) j ≡ next_choice n other j
+still-aside {n = n} {other = other} logs [] made valid j is = ap (λ l. next_choice n l j) (append-nil other)
+still-aside {n = n} {other = other} {aside = aside} logs (e ∷ rest) made valid j is =
+    let own : aside e.student ≡ false = made-own logs e made.0 valid.0 in
     ap (λ l. next_choice n l j) (sym (append_assoc other (e ∷ []) rest))
-    ∙ still-aside (agree-after logs e first valid.0) rest (All-tail (λ x. marked x.school ≡ false) e rest unmarked) valid.1 j is
-    ∙ still-after logs e first valid.0 j is
+    ∙ still-aside (agree-after logs e own) rest made.1 valid.1 j is
+    ∙ still-after n other aside e own j is
 
--- entries at schools that are not marked
-pub segment-beside : {m n : Market} {log other : List Rejection} {marked aside : ℕ → Bool} → AlikeBeside m n marked aside → AgreeBeside m n log other marked aside → (rest : List Rejection) → All (λ e. marked e.school ≡ false) rest → IsValidAfter m log rest → IsValidAfter n other rest × AgreeBeside m n (log ++ rest) (other ++ rest) marked aside
-segment-beside {m} {n} {log} {other} {marked} {aside} papers logs [] unmarked valid = (tt, subst (λ l. AgreeBeside m n (log ++ []) l marked aside) (sym (append-nil other)) (subst (λ l. AgreeBeside m n l other marked aside) (sym (append-nil log)) logs))
-segment-beside {m} {n} {log} {other} {marked} {aside} papers logs (e ∷ rest) unmarked valid =
-    let first : marked e.school ≡ false = All-head (λ x. marked x.school ≡ false) e rest unmarked in
-    let more = segment-beside papers (agree-after logs e first valid.0) rest (All-tail (λ x. marked x.school ≡ false) e rest unmarked) valid.1 in (
-      (entry-beside papers logs e first valid.0, more.0),
+-- entries that the new run makes too
+pub segment-beside : {m n : Market} {log other : List Rejection} {marked aside : ℕ → Bool} → AlikeBeside m n marked aside → AgreeBeside m n log other marked aside → (rest : List Rejection) → AreMadeToo n marked aside other rest → IsValidAfter m log rest → IsValidAfter n other rest × AgreeBeside m n (log ++ rest) (other ++ rest) marked aside
+segment-beside {m} {n} {log} {other} {marked} {aside} papers logs [] made valid = (tt, subst (λ l. AgreeBeside m n (log ++ []) l marked aside) (sym (append-nil other)) (subst (λ l. AgreeBeside m n l other marked aside) (sym (append-nil log)) logs))
+segment-beside {m} {n} {log} {other} {marked} {aside} papers logs (e ∷ rest) made valid =
+    let more = segment-beside papers (agree-after logs e (made-own logs e made.0 valid.0)) rest made.1 valid.1 in (
+      (made-valid papers logs e made.0 valid.0, more.0),
       subst (λ l. AgreeBeside m n l (other ++ e ∷ rest) marked aside) (append_assoc log (e ∷ []) rest)
           (subst (λ l. AgreeBeside m n ((log ++ e ∷ []) ++ rest) l marked aside) (append_assoc other (e ∷ []) rest) more.1),
     )
+
+-- entries that name no marked school are made too
+pub unmarked-made : (n : Market) (marked aside : ℕ → Bool) (log rest : List Rejection) → All (λ e. marked e.school ≡ false) rest → AreMadeToo n marked aside log rest
+unmarked-made n marked aside log [] unmarked = tt
+unmarked-made n marked aside log (e ∷ rest) unmarked =
+    (inl (All-head (λ x. marked x.school ≡ false) e rest unmarked), unmarked-made n marked aside (log ++ e ∷ []) rest (All-tail (λ x. marked x.school ≡ false) e rest unmarked))
+
+-- and so are more entries after those that are
+pub made-join : (n : Market) (marked aside : ℕ → Bool) (log front later : List Rejection) → AreMadeToo n marked aside log front → AreMadeToo n marked aside (log ++ front) later → AreMadeToo n marked aside log (front ++ later)
+made-join n marked aside log [] later made after = subst (λ l. AreMadeToo n marked aside l later) (append-nil log) after
+made-join n marked aside log (e ∷ front) later made after =
+    (made.0, made-join n marked aside (log ++ e ∷ []) front later made.1 (subst (λ l. AreMadeToo n marked aside l later) (sym (append_assoc log (e ∷ []) front)) after))
 
 -- and no more
 count-back : {m n : Market} {marked aside : ℕ → Bool} → AlikeBeside m n marked aside → (p q : ℕ → Bool) → ((j : ℕ) → p j ≡ true → aside j ≡ false) → ((j : ℕ) → p j ≡ true → q j ≡ true) → how_many n p ≤ how_many m q
@@ -93,7 +113,7 @@ pub record Enters (m n before : Market) (log other rest : List Rejection) (marke
   pub papers : AlikeBeside m n marked aside
   pub logs : AgreeBeside m n log other marked aside
   pub old : IsSettled m (log ++ rest)
-  pub unmarked : All (λ e. marked e.school ≡ false) rest
+  pub made_too : AreMadeToo n marked aside other rest
   -- who stands at a marked school after the segment stood there before
   pub stood : (j s : ℕ) → marked s ≡ true → aside j ≡ false → next_choice m (log ++ rest) j ≡ Some s → next_choice before other j ≡ Some s
   -- whoever is aside had entered
@@ -103,7 +123,7 @@ pub record Enters (m n before : Market) (log other rest : List Rejection) (marke
 within-unmarked : {m n before : Market} {log other rest : List Rejection} {marked aside : ℕ → Bool} → Enters m n before log other rest marked aside → (s : ℕ) → marked s ≡ false → held n (matching_of n (other ++ rest)) s ≤ seats_of n s
 within-unmarked {m} {n} {before} {log} {other} {rest} {marked} {aside} given s unmarked =
     let valid = valid-rest m [] log rest given.old.valid in
-    let after = (segment-beside given.papers given.logs rest given.unmarked valid).1 in
+    let after = (segment-beside given.papers given.logs rest given.made_too valid).1 in
     let none_aside : (j : ℕ) → has (matching_of n (other ++ rest)) s j ≡ true → aside j ≡ false = λ j holds.
     false_from_ne_true (aside j) (λ is. false≢true (sym unmarked ∙ after.new j s is (has-true (matching_of n (other ++ rest)) s j holds))) in
     let stands : (j : ℕ) → has (matching_of n (other ++ rest)) s j ≡ true → has (matching_of m (log ++ rest)) s j ≡ true = λ j holds.
@@ -115,16 +135,16 @@ stood-before : {m n before : Market} {log other rest : List Rejection} {marked a
 stood-before {m} {n} {before} {log} {other} {rest} {marked} {aside} given s is_marked j next =
     let valid = valid-rest m [] log rest given.old.valid in
     elim (cases_Bool (aside j)) [
-      | inl is ↦ given.apart j s is (sym (still-aside given.logs rest given.unmarked valid j is) ∙ next)
-      | inr beside ↦ given.stood j s is_marked beside (sym (next-beside given.papers (segment-beside given.papers given.logs rest given.unmarked valid).1 j beside) ∙ next)
+      | inl is ↦ given.apart j s is (sym (still-aside given.logs rest given.made_too valid j is) ∙ next)
+      | inr beside ↦ given.stood j s is_marked beside (sym (next-beside given.papers (segment-beside given.papers given.logs rest given.made_too valid).1 j beside) ∙ next)
     ]
 
--- the segment of a student who enters stays, where it names no marked school and nobody comes to stand at one
+-- the segment of a student who enters stays, where the new run makes it too and nobody comes to stand at a marked school
 pub segment-stays : {m n before full : Market} {few more : ℕ → Bool} {log other rest : List Rejection} {marked aside : ℕ → Bool} → Restricts before full few → Restricts n full more → ((i : ℕ) → few i ≡ true → more i ≡ true) → IsSettled before other → Enters m n before log other rest marked aside → IsSettled n (other ++ rest)
 segment-stays {m} {n} {before} {full} {few} {more} {log} {other} {rest} {marked} {aside} small large wider settled given =
     let valid = valid-rest m [] log rest given.old.valid in
     record {
-      valid = valid-join n [] other rest (valid-grows small large wider [] other settled.valid) (segment-beside given.papers given.logs rest given.unmarked valid).0;
+      valid = valid-join n [] other rest (valid-grows small large wider [] other settled.valid) (segment-beside given.papers given.logs rest given.made_too valid).0;
       within_seats = λ s. elim (cases_Bool (marked s)) [
         | inr unmarked ↦ within-unmarked given s unmarked
         | inl is_marked ↦

@@ -6,18 +6,19 @@ use Rattle.std.proofs.lemmas.List.Elements.{All-head, All-tail}
 use Rattle.std.proofs.lemmas.Option.{same_Some, slice_get-get_or, slice_get_within}
 use Rattle.sc_papers.specs.Market.{Market, choices_of, students_of}
 use Rattle.sc_papers.specs.WellFormed.{WellFormed}
-use Rattle.sc_papers.specs.Log.{is_rejected, next_choice, IsSettled, IsValidAfter, IsValidLog}
+use Rattle.sc_papers.specs.Log.{next_choice, IsSettled, IsValidAfter, IsValidLog}
 use Rattle.sc_papers.specs.Chain.{and_one, InChain}
 use Rattle.sc_papers.specs.declared.rejection.Rejection.{Rejection}
 use Rattle.sc_papers.proofs.Chain.{chain-begins, chain-puts-out}
-use Rattle.sc_papers.proofs.Rejections.{next-same, rejected-push_cases}
+use Rattle.sc_papers.proofs.Rejections.{next-same}
 use Rattle.sc_papers.proofs.Restriction.{Restricts}
+use Rattle.sc_papers.proofs.Standings.{valid-rest}
 use Rattle.sc_ledgers.specs.Cohort.{Cohort, cut, has_entered, IsRunTo}
-use Rattle.sc_ledgers.specs.Ledger.{log_at, HasAsked, HasAskedBy, IsExact}
+use Rattle.sc_ledgers.specs.Ledger.{log_at, HasAskedBy, StandsAt}
 use Rattle.sc_ledgers.specs.Proposals.{choice_after, end_of}
-use Rattle.sc_ledgers.specs.declared.ledger.Label.{Label}
 use Rattle.sc_ledgers.proofs.Cohorts.{cut-entered, cut-one, first-students, next-without, well-cut}
-use Rattle.sc_ledgers.proofs.Entry.{next-first}
+use Rattle.sc_ledgers.proofs.Coursing.{valid-first}
+use Rattle.sc_ledgers.proofs.Entry.{next-first, next-unnamed}
 use Rattle.sc_ledgers.proofs.Staying.{log-after, valid-turn}
 use Rattle.sc_ledgers.proofs.TurnPlaces.{goes-on}
 use Rattle.sc_ledgers.proofs.ValidSteps.{valid-puts_out}
@@ -56,44 +57,50 @@ came-last n m few well part log hand j s (e ∷ rest) chain valid none came stan
     ])
     (ap (λ l. next_choice n l j) (append_assoc log (e ∷ []) rest) ∙ stands)
 
--- a school that none of the later entries names has rejected whom it had rejected before them
-rejected-less : (log rest : List Rejection) (j s : ℕ) → All (λ e. e.school ≡ s → ⊥) rest → is_rejected (log ++ rest) j s ≡ true → is_rejected log j s ≡ true
-rejected-less log [] j s none rejected = ap (λ l. is_rejected l j s) (sym (append-nil log)) ∙ rejected
-rejected-less log (e ∷ rest) j s none rejected = elim (rejected-push_cases log e j s (rejected-less (log ++ e ∷ []) rest j s (All-tail (λ x. x.school ≡ s → ⊥) e rest none) (ap (λ l. is_rejected l j s) (append_assoc log (e ∷ []) rest) ∙ rejected))) [
-  | inl before ↦ before
-  | inr same ↦ absurd (All-head (λ x. x.school ≡ s → ⊥) e rest none same.1)
-]
+-- where the first entries are of the one in hand, they are in hand still
+own-chain : (n : Market) → WellFormed n → (log : List Rejection) (hand : ℕ) (front : List Rejection) → InChain n log hand → IsValidAfter n log front → All (λ e. e.student ≡ hand) front → InChain n (log ++ front) hand
+own-chain n well log hand [] chain valid own = subst (λ l. InChain n l hand) (sym (append-nil log)) chain
+own-chain n well log hand (e ∷ front) chain valid own =
+    subst (λ l. InChain n l hand) (append_assoc log (e ∷ []) front)
+    (own-chain n well (log ++ e ∷ []) hand front
+    (subst (InChain n (log ++ e ∷ [])) (All-head (λ x. x.student ≡ hand) e front own) (chain-puts-out n well log hand e chain (valid-puts_out n well log hand e chain valid.0)))
+    valid.1 (All-tail (λ x. x.student ≡ hand) e front own))
 
--- a label of a turn is of a school that the turn's segment names, or at which its chain ended
-pub came-at-end : (m : Cohort) (to : ℕ) (old : List (List Rejection)) (k i s : ℕ) (rest : List Rejection) (label : Label) → WellFormed m.papers → slice_get (students_of m.papers) k ≡ Some i → m.enters i ≡ true → IsRunTo m to old → slice_get old k ≡ Some rest → All (λ e. e.school ≡ s → ⊥) rest → label.turn ≡ k → IsExact m old s label → end_of m.papers i rest ≡ Some s
+own-ends : (n m : Market) (few : ℕ → Bool) → WellFormed n → Restricts n m few → (log : List Rejection) (hand : ℕ) (front later : List Rejection) → InChain n log hand → IsValidAfter n log front → All (λ e. e.student ≡ hand) front → ends m (next_choice n log hand) (front ++ later) ≡ ends m (next_choice n (log ++ front) hand) later
+own-ends n m few well part log hand [] later chain valid own = ap (λ l. ends m (next_choice n l hand) later) (sym (append-nil log))
+own-ends n m few well part log hand (e ∷ front) later chain valid own =
+    let same : e.student ≡ hand = All-head (λ x. x.student ≡ hand) e front own in
+    let next : InChain n (log ++ e ∷ []) hand = subst (InChain n (log ++ e ∷ [])) same (chain-puts-out n well log hand e chain (valid-puts_out n well log hand e chain valid.0)) in
+    ap (λ first. ends m first (front ++ later)) (sym (goes-on n m few well part log e chain.valid valid.0) ∙ ap (next_choice n (log ++ e ∷ [])) same)
+    ∙ own-ends n m few well part (log ++ e ∷ []) hand front later next valid.1 (All-tail (λ x. x.student ≡ hand) e front own)
+    ∙ ap (λ l. ends m (next_choice n l hand) later) (append_assoc log (e ∷ []) front)
+
+-- whoever came to stand at a school in a turn, of whose entries the first are of who entered and the others do not name the school, is where its chain ended
+pub came-at-end : (m : Cohort) (to : ℕ) (old : List (List Rejection)) (k i j s : ℕ) (rest front later : List Rejection) → WellFormed m.papers → slice_get (students_of m.papers) k ≡ Some i → m.enters i ≡ true → IsRunTo m to old → slice_get old k ≡ Some rest → front ++ later ≡ rest → All (λ e. e.student ≡ i) front → All (λ e. e.school ≡ s → ⊥) later → StandsAt m old (k + 1) j s → (HasAskedBy m old k j s → ⊥) → end_of m.papers i rest ≡ Some s
 unfolding end_of
-came-at-end m to old k i s rest label well here enters older segment none same exact =
+came-at-end m to old k i j s rest front later well here enters older segment parts own none stands unasked =
     sym (ends-last m.papers (slice_get (choices_of m.papers i) 0) rest)
-    ∙ ap (λ first. ends m.papers first rest) (sym (next-first m k i well here enters (log_at old k) before.valid))
-    ∙ came-last n m.papers (has_entered m (k + 1)) (well-cut m (k + 1) well) (first-students m (k + 1) well) (log_at old k) i j s rest chain (valid-turn m old k rest older segment) none
+    ∙ ap (λ first. ends m.papers first rest) (sym (next-first m k i well here enters log before.valid))
+    ∙ ap (ends m.papers (next_choice n log i)) (sym parts)
+    ∙ own-ends n m.papers (has_entered m (k + 1)) (well-cut m (k + 1) well) (first-students m (k + 1) well) log i front later chain (valid-first n log front later valid) own
+    ∙ came-last n m.papers (has_entered m (k + 1)) (well-cut m (k + 1) well) (first-students m (k + 1) well) (log ++ front) i j s later (own-chain n (well-cut m (k + 1) well) log i front chain (valid-first n log front later valid) own) (valid-rest n log front later valid) none
     (λ now. elim (cases_eq j i) [
       | inl it ↦ it
-      | inr apart ↦ absurd (unasked (inl (next-without m k i well here (log_at old k) j s apart now)))
+      | inr apart ↦ absurd (unasked (inl (next-without m k i well here log j s apart (sym (next-unnamed n log front j (λ p d low same. apart (sym same ∙ own p d low))) ∙ now))))
     ])
-    (elim asked [
-      | inl stands ↦ stands
-      | inr rejected ↦ absurd (unasked (inr (rejected-less (log_at old k) rest j s none rejected)))
-    ])
+    (ap (λ l. next_choice n l j) (append_assoc log front later ∙ ap (λ l. log ++ l) parts ∙ sym (log-after old k rest segment)) ∙ stands)
   where
     n : Market
     n = cut m (k + 1)
 
-    j : ℕ
-    j = label.key.student
+    log : List Rejection
+    log = log_at old k
 
-    before : IsSettled (cut m k) (log_at old k)
+    before : IsSettled (cut m k) log
     before = older.settled k (omega (arith, older.one_each, slice_get_within old k rest segment))
 
-    chain : InChain n (log_at old k) i
-    chain = subst (λ p. InChain p (log_at old k) i) (sym (cut-one m k i here enters)) (chain-begins m.papers (has_entered m k) i (log_at old k) (subst (λ p. IsSettled p (log_at old k)) (cut-entered m k) before))
+    chain : InChain n log i
+    chain = subst (λ p. InChain p log i) (sym (cut-one m k i here enters)) (chain-begins m.papers (has_entered m k) i log (subst (λ p. IsSettled p log) (cut-entered m k) before))
 
-    unasked : HasAskedBy m old k j s → ⊥
-    unasked asked = exact.not_before (subst (λ t. HasAskedBy m old t j s) (sym same) asked)
-
-    asked : HasAsked n (log_at old k ++ rest) j s
-    asked = subst (λ l. HasAsked n l j s) (log-after old k rest segment) (subst (λ t. HasAskedBy m old (t + 1) j s) same exact.asked)
+    valid : IsValidAfter n log (front ++ later)
+    valid = subst (IsValidAfter n log) (sym parts) (valid-turn m old k rest older segment)

@@ -26,6 +26,7 @@ pub mod Passing
 pub mod Placed
 pub mod Placing
 pub mod Proposing
+pub mod Refusing
 pub mod Restarting
 pub mod Retaking
 pub mod Running

@@ -1,7 +1,7 @@
 -- The chain of a turn, by the ledgers of all schools.
-use Rattle.std.proofs.Common.{◌≡◌, inl, inr, ap, sym, subst, ◌∙◌, ℕ, ◌<◌, ◌+◌, ◌-◌, true, List, [], ◌∷◌, ◌++◌, length, slice_get, None, Some, Contains, arith}
+use Rattle.std.proofs.Common.{◌≡◌, inl, inr, ap, sym, subst, ◌∙◌, ℕ, ◌<◌, ◌+◌, true, List, [], ◌∷◌, ◌++◌, length, slice_get, None, Some, Contains, arith}
 use Rattle.std.proofs.lemmas.Bool.{cases_eq, false≢true}
-use Rattle.std.proofs.lemmas.Option.{none-some, same_Some, slice_get_within}
+use Rattle.std.proofs.lemmas.Option.{none-some, same_Some}
 use Rattle.sc_papers.specs.Market.{students_of}
 use Rattle.sc_papers.specs.WellFormed.{WellFormed}
 use Rattle.sc_papers.specs.Key.{key_of}
@@ -17,8 +17,7 @@ use Rattle.sc_papers.proofs.Subsets.{next-passes}
 use Rattle.sc_ledgers.specs.Ledger.{AreLabelsBefore, HasAsked, HasAskedBy, InTurn, IsExact, IsNoted, Relabels, StandsAt}
 use Rattle.sc_ledgers.specs.declared.ledger.Label.{Label}
 use Rattle.sc_ledgers.proofs.Asking.{refused-step, seated-step}
-use Rattle.sc_ledgers.proofs.Beginning.{begins-asking, key-first, not-yet, not_now}
-use Rattle.sc_ledgers.proofs.Changing.{asked-later}
+use Rattle.sc_ledgers.proofs.Beginning.{asked-by, begins-asking, key-first, not-yet, not_now}
 use Rattle.sc_ledgers.proofs.Others.{rejected-kept}
 use Rattle.sc_ledgers.proofs.Staying.{asked-push, log-kept, log-new, log-whole, next-untried, rejected-more}
 use Rattle.sc_ledgers.proofs.Cohorts.{first-students, next-with, next-without, run-settled}
@@ -32,6 +31,11 @@ asked-nobody n new k i well here newer as_many s asked =
       | inr rejected ↦ rejected-kept (first-students n k well) (joined new) (run-settled n k new newer).valid i s rejected
     ])
 
+-- so no label of a turn before is theirs
+pub none-before : (n : Cohort) (new : List (List Rejection)) (k i : ℕ) (labels : ℕ → List Label) → WellFormed n.papers → slice_get (students_of n.papers) k ≡ Some i → IsRunTo n k new → length new ≡ k → AreLabelsBefore n new k labels → (s : ℕ) (label : Label) → Contains (labels s) label → label.turn < k → label.key.student ≡ i → ⊥
+none-before n new k i labels well here newer as_many before s label at earlier same =
+    asked-nobody n new k i well here newer as_many s (subst (λ j. HasAskedBy n new k j s) same (asked-by n new k i labels well here newer as_many before s label at earlier))
+
 pub turn-begins : (n : Cohort) (new : List (List Rejection)) (k i : ℕ) (labels : ℕ → List Label) → WellFormed n.papers → slice_get (students_of n.papers) k ≡ Some i → n.enters i ≡ true → IsRunTo n k new → length new ≡ k → AreLabelsBefore n new k labels → ((s : ℕ) (label : Label) → Contains (labels s) label → label.turn ≡ k → ⊥) → InTurn n new k (joined new) i labels labels
 turn-begins n new k i labels well here turn newer as_many before none = record {
   asking = begins-asking n new k i labels well here turn newer as_many before none;
@@ -41,10 +45,7 @@ turn-begins n new k i labels well here turn newer as_many before none = record {
   ];
   moved = λ s asked. absurd (asked-nobody n new k i well here newer as_many s asked);
   behind = λ s label at low same.
-      let earlier : label.turn < k = not_now label.turn k (none s label at) low in
-      let found = before.exact s label at earlier in
-      let later : HasAskedBy n new (label.turn + 1 + (k - (label.turn + 1))) label.key.student s = asked-later n new k well newer as_many (omega (arith, slice_get_within (students_of n.papers) k i here)) (label.turn + 1) (k - (label.turn + 1)) (omega (arith, earlier)) label.key.student s found.asked in
-      absurd (asked-nobody n new k i well here newer as_many s (subst (λ u. HasAskedBy n new u i s) (omega (arith, earlier)) (subst (λ j. HasAskedBy n new (label.turn + 1 + (k - (label.turn + 1))) j s) same later)));
+      absurd (none-before n new k i labels well here newer as_many before s label at (not_now label.turn k (none s label at) low) same);
   kept = λ s label at. inl at;
   others = λ s label at other. at;
   own = λ s label at same. absurd (none s label at same);

@@ -84,8 +84,3 @@ turn-starts {m} {n} {old} {k} given = record {
   before = before-start given;
   from = from-start given;
 }
-
--- after the last turn the labels are those of a whole run
-pub run-ends : {m n : Cohort} {old new : List (List Rejection)} {k : ℕ} {labels : ℕ → List Label} {marked aside amended : ℕ → Bool} → k ≡ length (students_of n.papers) → AtTurn m n old new k labels marked aside amended → IsRunTo n (length (students_of n.papers)) new × AreLabelsBefore n new (length new) labels
-run-ends {n = n} {new = new} {k = k} {labels = labels} past at =
-    (subst (λ u. IsRunTo n u new) past at.newer, subst (λ u. AreLabelsBefore n new u labels) (sym at.as_many) at.before)

@@ -16,10 +16,10 @@ use Rattle.sc_papers.proofs.Choices.{first-found}
 use Rattle.sc_papers.proofs.Cutting.{joined-push}
 use Rattle.sc_papers.proofs.Rejections.{has-some, has-true, is_of, next-same, rejected-push, rejected-push_cases}
 use Rattle.sc_papers.proofs.Standings.{valid-rest}
-use Rattle.sc_ledgers.specs.Ledger.{log_at, AgreeBeside, AreLabelsBefore, AreLabelsFrom, AtTurn, AlikeBeside, HasAsked, HasAskedBy, IsExact, StandsAt, Stays}
+use Rattle.sc_ledgers.specs.Ledger.{log_at, AgreeBeside, AreLabelsBefore, AreLabelsFrom, AtTurn, AlikeBeside, AreMadeToo, HasAsked, HasAskedBy, IsExact, StandsAt, Stays}
 use Rattle.sc_ledgers.specs.declared.ledger.Label.{Label}
 use Rattle.sc_ledgers.proofs.Cohorts.{entered-more, first-students, next-with, next-without, run-more}
-use Rattle.sc_ledgers.proofs.Beside.{agree-after, next-beside, segment-beside, segment-stays, stands-beside, still-aside}
+use Rattle.sc_ledgers.proofs.Beside.{agree-after, made-own, next-beside, segment-beside, segment-stays, still-aside}
 
 -- whoever is not aside has asked the same schools
 pub asked-beside : {m n : Market} {log other : List Rejection} {marked aside : ℕ → Bool} → AlikeBeside m n marked aside → AgreeBeside m n log other marked aside → (j s : ℕ) → aside j ≡ false → HasAsked m log j s → HasAsked n other j s
@@ -111,21 +111,6 @@ has_asked m log j s = elim (cases_Bool (has (matching_of m log) s j)) [
 pub log-new : (new : List (List Rejection)) (k : ℕ) → length new ≡ k → log_at new k ≡ joined new
 log-new new k as_many = ap joined (take_all k new (omega (arith, as_many)))
 
--- who came to stand at a marked school had asked it before the turn
-asked-before : {m n : Cohort} {old new : List (List Rejection)} {k i : ℕ} {rest : List Rejection} {labels : ℕ → List Label} {marked aside amended : ℕ → Bool} → Stays m n old new k i rest labels marked aside amended → (j s : ℕ) → marked s ≡ true → aside j ≡ false → StandsAt m old (k + 1) j s → HasAskedBy m old k j s
-asked-before {m} {n} {old} {new} {k} {i} {rest} {labels} {marked} {aside} {amended} given j s is_marked beside stands =
-    elim (has_asked (cut m k) (log_at old k) j s) [
-      | inl asked ↦ asked
-      | inr not_yet ↦
-          let others : amended j ≡ false = elim (cases_Bool (amended j)) [
-            | inl is ↦ absurd (false≢true (sym beside ∙ given.amended_aside j is))
-            | inr other ↦ other
-          ] in
-          let not_new : HasAskedBy n new k j s → ⊥ = λ asked. not_yet (asked-back (given.papers k) given.logs j s beside (subst (λ l. HasAsked (cut n k) l j s) (log-new new k given.as_many) asked)) in
-          absurd (given.nobody s (record { key = key_of n.papers j s; turn = k }) is_marked
-          (given.from.complete k j s (omega arith) (slice_get_within old k rest given.segment) others not_new stands not_yet) refl)
-    ]
-
 -- the valid log of the turn, in the old run
 pub valid-turn : {to : ℕ} (m : Cohort) (old : List (List Rejection)) (k : ℕ) (rest : List Rejection) → IsRunTo m to old → slice_get old k ≡ Some rest → IsValidAfter (cut m (k + 1)) (log_at old k) rest
 valid-turn m old k rest older here =
@@ -142,7 +127,7 @@ pub agree-then : {m n : Cohort} {old new : List (List Rejection)} {k i : ℕ} {r
 agree-then {m} {n} {old} {new} {k} {i} {rest} {labels} {marked} {aside} given =
     subst (λ l. AgreeBeside (cut m (k + 1)) (cut n (k + 1)) l (joined (new ++ rest ∷ [])) marked aside) (sym (log-after old k rest given.segment))
     (subst (λ l. AgreeBeside (cut m (k + 1)) (cut n (k + 1)) (log_at old k ++ rest) l marked aside) (sym (joined-push new rest))
-    (segment-beside (given.papers (k + 1)) (agree-now given) rest given.unmarked (valid-turn m old k rest given.older given.segment)).1)
+    (segment-beside (given.papers (k + 1)) (agree-now given) rest given.made_too (valid-turn m old k rest given.older given.segment)).1)
 
 -- the new log is settled after the turn
 settled-then : {m n : Cohort} {old new : List (List Rejection)} {k i : ℕ} {rest : List Rejection} {labels : ℕ → List Label} {marked aside amended : ℕ → Bool} → Stays m n old new k i rest labels marked aside amended → IsSettled (cut n (k + 1)) (joined new ++ rest)
@@ -158,8 +143,8 @@ settled-then {m} {n} {old} {new} {k} {i} {rest} {labels} {marked} {aside} {amend
       papers = given.papers (k + 1);
       logs = logs;
       old = subst (IsSettled (cut m (k + 1))) (log-after old k rest given.segment) (given.older.settled (k + 1) (omega (arith, within, given.older.one_each)));
-      unmarked = given.unmarked;
-      stood = λ j s is_marked beside next. elim (asked-before given j s is_marked beside (subst (λ l. next_choice (cut m (k + 1)) l j ≡ Some s) (sym (log-after old k rest given.segment)) next)) [
+      made_too = given.made_too;
+      stood = λ j s is_marked beside next. elim (given.nobody j s is_marked (subst (λ l. next_choice (cut m (k + 1)) l j ≡ Some s) (sym (log-after old k rest given.segment)) next)) [
         | inl stands ↦ next-beside (given.papers k) given.logs j beside ∙ stands
         | inr rejected ↦ absurd (false≢true (sym (next-untried (cut m (k + 1)) (log_at old k ++ rest) j s next) ∙ rejected-more (log_at old k) rest j s rejected))
       ];
@@ -174,18 +159,18 @@ pub log-whole : (new : List (List Rejection)) (rest : List Rejection) (k : ℕ) 
 log-whole new rest k as_many = log-new (new ++ rest ∷ []) (k + 1) (length_push new rest ∙ omega (arith, as_many))
 
 -- no entry names one who is aside
-pub none-named : {m n : Market} {log other : List Rejection} {marked aside : ℕ → Bool} → AgreeBeside m n log other marked aside → (rest : List Rejection) → All (λ e. marked e.school ≡ false) rest → IsValidAfter m log rest → (j : ℕ) → aside j ≡ true → All (λ e. e.student ≡ j → ⊥) rest
-none-named logs [] unmarked valid j is = All-nil (λ e. e.student ≡ j → ⊥)
-none-named {marked = marked} {aside = aside} logs (e ∷ rest) unmarked valid j is =
-    let first : marked e.school ≡ false = All-head (λ x. marked x.school ≡ false) e rest unmarked in
+pub none-named : {m n : Market} {log other : List Rejection} {marked aside : ℕ → Bool} → AgreeBeside m n log other marked aside → (rest : List Rejection) → AreMadeToo n marked aside other rest → IsValidAfter m log rest → (j : ℕ) → aside j ≡ true → All (λ e. e.student ≡ j → ⊥) rest
+none-named logs [] made valid j is = All-nil (λ e. e.student ≡ j → ⊥)
+none-named {aside = aside} logs (e ∷ rest) made valid j is =
+    let own : aside e.student ≡ false = made-own logs e made.0 valid.0 in
     All-cons (λ x. x.student ≡ j → ⊥) e rest
-    (λ same. false≢true (sym (ap aside (sym same) ∙ stands-beside logs e.student e.school first valid.0.next) ∙ is))
-    (none-named (agree-after logs e first valid.0) rest (All-tail (λ x. marked x.school ≡ false) e rest unmarked) valid.1 j is)
+    (λ same. false≢true (sym (ap aside (sym same) ∙ own) ∙ is))
+    (none-named (agree-after logs e own) rest made.1 valid.1 j is)
 
 -- whoever is aside has asked no more in the old run
 aside-asked : {m n : Cohort} {old new : List (List Rejection)} {k i : ℕ} {rest : List Rejection} {labels : ℕ → List Label} {marked aside amended : ℕ → Bool} → Stays m n old new k i rest labels marked aside amended → (j s : ℕ) → aside j ≡ true → HasAskedBy m old (k + 1) j s → HasAskedBy m old k j s
 aside-asked {m} {n} {old} {new} {k} {i} {rest} {labels} {marked} {aside} given j s is asked =
-    elim (asked-less (cut m (k + 1)) (log_at old k) rest j s (none-named (agree-now given) rest given.unmarked (valid-turn m old k rest given.older given.segment) j is)
+    elim (asked-less (cut m (k + 1)) (log_at old k) rest j s (none-named (agree-now given) rest given.made_too (valid-turn m old k rest given.older given.segment) j is)
     (subst (λ l. HasAsked (cut m (k + 1)) l j s) (log-after old k rest given.segment) asked)) [
       | inl next ↦ inl (next-without m k i given.well_m given.here_m (log_at old k) j s (λ same. false≢true (sym (ap aside same ∙ given.enters) ∙ is)) next)
       | inr rejected ↦ inr rejected
@@ -216,7 +201,7 @@ standing-then {m} {n} {old} {new} {k} {i} {rest} {labels} {marked} {aside} {amen
     (found.0, omega (arith, found.1), found.2) in
     let after : next_choice (cut n (k + 1)) (joined new ++ rest) j ≡ Some s = subst (λ l. next_choice (cut n (k + 1)) l j ≡ Some s) (joined-push new rest) next in
     elim (cases_Bool (aside j)) [
-      | inl is ↦ stood (next-without n k i given.well_n given.here_n (joined new) j s (λ same. false≢true (sym (ap aside same ∙ given.enters) ∙ is)) (sym (still-aside (agree-now given) rest given.unmarked valid j is) ∙ after))
+      | inl is ↦ stood (next-without n k i given.well_n given.here_n (joined new) j s (λ same. false≢true (sym (ap aside same ∙ given.enters) ∙ is)) (sym (still-aside (agree-now given) rest given.made_too valid j is) ∙ after))
       | inr beside ↦ elim (has_asked (cut n k) (joined new) j s) [
         | inl asked ↦ elim asked [
           | inl before ↦ stood before
@@ -268,7 +253,7 @@ from-then {m} {n} {old} {new} {k} {i} {rest} {labels} {marked} {aside} {amended}
       given.from.complete t j s (omega (arith, high)) within other
       (λ asked. not_new (subst (λ l. HasAsked (cut n (k + 1)) l j s) (sym (log-whole new rest k given.as_many ∙ joined-push new rest))
       (asked-more (cut n (k + 1)) (joined new) rest j s
-      (segment-beside (given.papers (k + 1)) (agree-now given) rest given.unmarked (valid-turn m old k rest given.older given.segment)).0
+      (segment-beside (given.papers (k + 1)) (agree-now given) rest given.made_too (valid-turn m old k rest given.older given.segment)).0
       (with j s (subst (λ l. HasAsked (cut n k) l j s) (log-new new k given.as_many) asked)))))
       stands not_yet;
 }

@@ -1,5 +1,5 @@
 -- From turn to turn: the segment stays, or the turn was taken anew.
-use Rattle.std.proofs.Common.{◌≡◌, refl, ap, sym, ◌∙◌, ℕ, ◌≤◌, ◌+◌, Bool, true, false, ◌&&◌, List, [], ◌∷◌, ◌++◌, length, get_or, slice_get, Option, Some, All, Contains, cond, arith}
+use Rattle.std.proofs.Common.{◌≡◌, refl, ap, sym, ◌∙◌, ℕ, ◌≤◌, ◌+◌, Bool, true, false, ◌&&◌, List, [], ◌∷◌, ◌++◌, length, get_or, slice_get, Option, Some, All, cond, arith}
 use Rattle.std.proofs.lemmas.Bool.{false_from_ne_true, false≢true}
 use Rattle.std.proofs.lemmas.Option.{slice_get_within}
 use Rattle.std.specs.List.{count_by}
@@ -11,7 +11,7 @@ use Rattle.sc_ledgers.specs.Cohort.{Cohort, cut, has_entered}
 use Rattle.sc_papers.specs.declared.rejection.Rejection.{Rejection}
 use Rattle.sc_papers.proofs.Cutting.{joined-push}
 use Rattle.sc_ledgers.specs.Elsewhere.{is_aside, AreAtMarked, AreStances}
-use Rattle.sc_ledgers.specs.Ledger.{log_at, AgreeBeside, AlikeBeside, Stays}
+use Rattle.sc_ledgers.specs.Ledger.{log_at, AgreeBeside, AlikeBeside, AreMadeToo, HasAskedBy, StandsAt, Stays}
 use Rattle.sc_ledgers.specs.Sweep.{is_amended, AreAmended, IsDue, IsRetaken, IsSwept}
 use Rattle.sc_ledgers.specs.declared.elsewhere.Stance.{Stance}
 use Rattle.sc_ledgers.specs.declared.ledger.Label.{Label}
@@ -72,7 +72,7 @@ module _ {m n : Cohort} {amended : Option ℕ} {before : List ℕ} {old new : Li
   new-valid = (run-settled n k new swept.newer).valid
 
   -- the logs agree beside whoever has a stance
-  logs-agree : k ≤ length old → AgreeBeside (cut m k) (cut n k) (log_at old k) (joined new) marked (is_aside list)
+  pub logs-agree : k ≤ length old → AgreeBeside (cut m k) (cut n k) (log_at old k) (joined new) marked (is_aside list)
   logs-agree low =
       agree-from (cut m k) (cut n k) (log_at old k) (joined new) list marked (is_amended amended) (well-cut m k both.well_m) (well-cut n k both.well_n) (both.older.settled k (omega (arith, low, both.older.one_each))).valid new-valid
       (λ j beside.
@@ -106,19 +106,24 @@ module _ {m n : Cohort} {amended : Option ℕ} {before : List ℕ} {old new : Li
   }
 
   -- who enters has no stance yet
-  not-aside : (i : ℕ) → slice_get (students_of n.papers) k ≡ Some i → is_amended amended i ≡ false → is_aside list i ≡ false
+  pub not-aside : (i : ℕ) → slice_get (students_of n.papers) k ≡ Some i → is_amended amended i ≡ false → is_aside list i ≡ false
   not-aside i here beside = false_from_ne_true (is_aside list i) (λ is. let found = aside-there list i is in absent-yet (due-of i here) beside found.0 found.1 found.2)
 
-  -- a segment that names no marked school does not name who is amended
-  pub unamended : (i : ℕ) (rest : List Rejection) → slice_get (students_of n.papers) k ≡ Some i → is_amended amended i ≡ false → slice_get old k ≡ Some rest → All (λ e. marked e.school ≡ false) rest → All (λ e. is_amended amended e.student ≡ false) rest
-  unamended i rest here beside segment unmarked =
+  -- the logs agree still as they enter
+  pub agree-next : (i : ℕ) (rest : List Rejection) → slice_get (students_of n.papers) k ≡ Some i → is_amended amended i ≡ false → slice_get old k ≡ Some rest → AgreeBeside (cut m (k + 1)) (cut n (k + 1)) (log_at old k) (joined new) marked (is_aside list)
+  agree-next i rest here beside segment =
       let here_m : slice_get (students_of m.papers) k ≡ Some i = ap (λ xs. slice_get xs k) (sym both.students) ∙ here in
-      let logs = agree-entered m n k i (log_at old k) (joined new) marked (is_aside list) both.well_m both.well_n here_m here (not-aside i here beside) (logs-agree (omega (arith, slice_get_within old k rest segment))) in
-      λ p d low. false_from_ne_true (is_amended amended (get_or rest p d).student) (λ is. none-named logs rest unmarked (valid-turn m old k rest both.older segment) (get_or rest p d).student (swept.held (get_or rest p d).student is) p d low refl)
+      agree-entered m n k i (log_at old k) (joined new) marked (is_aside list) both.well_m both.well_n here_m here (not-aside i here beside) (logs-agree (omega (arith, slice_get_within old k rest segment)))
 
-  -- its segment stays where it names no marked school, and nobody came to a marked one in it
-  pub stays-of : (i : ℕ) (rest : List Rejection) → slice_get (students_of n.papers) k ≡ Some i → is_amended amended i ≡ false → slice_get old k ≡ Some rest → All (λ e. marked e.school ≡ false) rest → ((s : ℕ) (label : Label) → marked s ≡ true → Contains (labels s) label → label.turn ≡ k → ⊥) → Stays m n old new k i rest labels marked (is_aside list) (is_amended amended)
-  stays-of i rest here beside segment unmarked nobody = record {
+  -- a segment that the new run makes too does not name who is amended
+  pub unamended : (i : ℕ) (rest : List Rejection) → slice_get (students_of n.papers) k ≡ Some i → is_amended amended i ≡ false → slice_get old k ≡ Some rest → AreMadeToo (cut n (k + 1)) marked (is_aside list) (joined new) rest → All (λ e. is_amended amended e.student ≡ false) rest
+  unamended i rest here beside segment made =
+      let logs = agree-next i rest here beside segment in
+      λ p d low. false_from_ne_true (is_amended amended (get_or rest p d).student) (λ is. none-named logs rest made (valid-turn m old k rest both.older segment) (get_or rest p d).student (swept.held (get_or rest p d).student is) p d low refl)
+
+  -- its segment stays where the new run makes it too, and nobody came to stand at a marked school in it
+  pub stays-of : (i : ℕ) (rest : List Rejection) → slice_get (students_of n.papers) k ≡ Some i → is_amended amended i ≡ false → slice_get old k ≡ Some rest → AreMadeToo (cut n (k + 1)) marked (is_aside list) (joined new) rest → ((j s : ℕ) → marked s ≡ true → StandsAt m old (k + 1) j s → HasAskedBy m old k j s) → Stays m n old new k i rest labels marked (is_aside list) (is_amended amended)
+  stays-of i rest here beside segment made nobody = record {
     well_m = both.well_m;
     well_n = both.well_n;
     here_m = ap (λ xs. slice_get xs k) (sym both.students) ∙ here;
@@ -135,7 +140,7 @@ module _ {m n : Cohort} {amended : Option ℕ} {before : List ℕ} {old new : Li
     from = swept.labels_from;
     enters = not-aside i here beside;
     segment = segment;
-    unmarked = unmarked;
+    made_too = made;
     nobody = nobody;
   }
 
@@ -148,13 +153,13 @@ stances-stay {m} {n} {old} {new} {k} {i} {rest} {list = list} given stances =
       old = λ x here.
           let is = aside-here list x here in
           ap (λ l. next_choice (cut m (k + 1)) l x.student) (log-after old k rest given.segment)
-          ∙ next-unnamed (cut m (k + 1)) (log_at old k) rest x.student (none-named logs rest given.unmarked valid x.student is)
+          ∙ next-unnamed (cut m (k + 1)) (log_at old k) rest x.student (none-named logs rest given.made_too valid x.student is)
           ∙ next-entering m k i given.well_m given.here_m (log_at old k) x.student (λ same. false≢true (sym (ap (is_aside list) same ∙ given.enters) ∙ is))
           ∙ stances.old x here;
       new = λ x here.
           let is = aside-here list x here in
           ap (λ l. next_choice (cut n (k + 1)) l x.student) (joined-push new rest)
-          ∙ still-aside logs rest given.unmarked valid x.student is
+          ∙ still-aside logs rest given.made_too valid x.student is
           ∙ next-entering n k i given.well_n given.here_n (joined new) x.student (λ same. false≢true (sym (ap (is_aside list) same ∙ given.enters) ∙ is))
           ∙ stances.new x here;
       alike = λ j absent. next-beside (given.papers (k + 1)) (agree-then given) j (false_from_ne_true (is_aside list j) (λ is. let found = aside-there list j is in absent found.0 found.1 found.2));

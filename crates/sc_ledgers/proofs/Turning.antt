@@ -1,32 +1,40 @@
 -- A turn is taken, and the marks follow.
-use Rattle.std.proofs.Common.{◌≡◌, inl, inr, refl, ap, sym, subst, ◌∙◌, ℕ, ◌≤◌, ◌<◌, ◌+◌, ◌-◌, Bool, not, true, false, List, [], length, get_or, nat_eq, position, slice_get, Option, Some, None, All, Contains, IfSome, ◌==◌, arith}
+use Rattle.std.proofs.Common.{◌≡◌, inl, inr, refl, ap, sym, subst, ◌∙◌, ℕ, ◌≤◌, ◌<◌, ◌+◌, ◌-◌, Bool, not, true, false, List, [], ◌++◌, drop, take, length, get_or, nat_eq, position, slice_get, Option, Some, None, All, Contains, IfSome, ◌==◌, arith}
 use Rattle.std.specs.Option.{option_and_then, option_map_or}
 use Rattle.std.proofs.lemmas.Bool.{cases_eq, false≢true}
-use Rattle.std.proofs.lemmas.List.{get_or_default}
+use Rattle.std.proofs.lemmas.List.{get_or_default, take-append-drop}
 use Rattle.std.proofs.lemmas.List.Elements.{All-contains}
 use Rattle.std.proofs.lemmas.Option.{get_or_from_slice_get, slice_get_within}
 use Rattle.sc_papers.specs.Market.{Market, choices_of, schools_of, students_of}
 use Rattle.sc_papers.specs.WellFormed.{WellFormed}
-use Rattle.sc_papers.specs.Log.{next_choice}
+use Rattle.sc_papers.specs.Log.{next_choice, IsSettled, IsValidAfter}
+use Rattle.sc_papers.specs.Chain.{InChain}
 use Rattle.sc_papers.specs.declared.rejection.Rejection.{Rejection}
+use Rattle.sc_papers.proofs.Chain.{chain-begins}
 use Rattle.sc_papers.proofs.Positions.{position-there, school-position}
 use Rattle.sc_papers.proofs.Students.{choice-known}
 use Rattle.sc_papers.proofs.Validity.{next-listed}
-use Rattle.sc_ledgers.specs.Cohort.{Cohort, cut}
+use Rattle.sc_ledgers.specs.Cohort.{Cohort, cut, has_entered}
 use Rattle.sc_ledgers.specs.Course.{labels_at, labels_of, AreTogether}
-use Rattle.sc_ledgers.specs.Elsewhere.{AreAmong, AreAtMarked, AreStances}
+use Rattle.sc_ledgers.specs.Elsewhere.{is_aside, AreAmong, AreAtMarked, AreStances}
+use Rattle.sc_ledgers.specs.Ledger.{log_at, AreMadeToo, HasAskedBy, IsRefusedToo, StandsAt}
 use Rattle.sc_ledgers.specs.Marks.{flag_at, marked_in, IsNamed, Marking, MarksFollow}
 use Rattle.sc_ledgers.specs.Proposals.{choice_after, end_of}
-use Rattle.sc_papers.specs.Restriction.{entries_of, outside, AreApart}
+use Rattle.sc_papers.specs.Restriction.{entries_of, joined, outside, AreApart}
 use Rattle.sc_weave.proofs.Part.{segment-fails}
 use Rattle.sc_ledgers.specs.Sweep.{is_amended, AreAmended, IsNext, IsRegion, IsSwept, IsThroughout}
 use Rattle.sc_ledgers.specs.declared.elsewhere.Stance.{Stance}
 use Rattle.sc_ledgers.specs.declared.ledger.Label.{Label}
-use Rattle.sc_ledgers.proofs.Cohorts.{choices-entered, lister-entered, run-segments}
+use Rattle.sc_ledgers.proofs.Beside.{made-join, unmarked-made}
+use Rattle.sc_ledgers.proofs.Cohorts.{choices-entered, cut-entered, cut-one, lister-entered, run-segments, run-settled}
+use Rattle.sc_ledgers.proofs.Coursing.{valid-first}
 use Rattle.sc_ledgers.proofs.Ending.{came-at-end}
 use Rattle.sc_ledgers.proofs.Passing.{none-of}
 use Rattle.sc_ledgers.proofs.Retaking.{rows-beside}
-use Rattle.sc_ledgers.proofs.Sweeping.{unamended}
+use Rattle.sc_ledgers.proofs.Refusing.{before-asking, front-made, IsRefusing, Refuses}
+use Rattle.sc_ledgers.proofs.Running.{none-before}
+use Rattle.sc_ledgers.proofs.Staying.{has_asked, valid-turn}
+use Rattle.sc_ledgers.proofs.Sweeping.{agree-next, alike-cut, not-aside, unamended}
 
 -- a turn ended alike in both papers, where neither who entered nor anybody whom its segment names is amended
 end-beside : (m n : Market) (i : ℕ) (rest : List Rejection) → choices_of n i ≡ choices_of m i → All (λ e. choices_of n e.student ≡ choices_of m e.student) rest → end_of n i rest ≡ end_of m i rest
@@ -38,16 +46,41 @@ end-beside m n i rest first later = go (slice_get rest (length rest - 1)) refl
     go (Some e) at = ap (λ xs. option_and_then (λ rank. slice_get xs (rank + 1)) (position (λ s. s == e.school) xs))
         (All-contains (λ x. choices_of n x.student ≡ choices_of m x.student) rest e later (length rest - 1, slice_get_within rest (length rest - 1) e at, get_or_from_slice_get rest (length rest - 1) e e at))
 
--- a turn whose segment names no marked school, and which ended at none: nobody came to a marked one in it
-pub nobody-marked : {m n : Cohort} {amended : Option ℕ} {before : List ℕ} {reseated marked : ℕ → Bool} {old new : List (List Rejection)} {k : ℕ} {labels : ℕ → List Label} {list : List Stance} → AreAmended m n amended before reseated old → IsSwept m n amended old new k labels list marked reseated → (i : ℕ) (rest : List Rejection) → slice_get (students_of n.papers) k ≡ Some i → is_amended amended i ≡ false → slice_get old k ≡ Some rest → All (λ e. marked e.school ≡ false) rest → IfSome (end_of n.papers i rest) (λ s. marked s ≡ false) → (s : ℕ) (label : Label) → marked s ≡ true → Contains (labels s) label → label.turn ≡ k → ⊥
-nobody-marked {m} {n} {amended} {before} {reseated} {marked} {old} {new} {k} {labels} {list} both swept i rest here beside segment unmarked unended s label is at same =
-    let here_m : slice_get (students_of m.papers) k ≡ Some i = ap (λ xs. slice_get xs k) (sym both.students) ∙ here in
-    let none : All (λ e. e.school ≡ s → ⊥) rest = λ p d low it. false≢true (sym (unmarked p d low) ∙ ap marked it ∙ is) in
-    let ended : end_of m.papers i rest ≡ Some s = came-at-end m (length (students_of m.papers)) old k i s rest label both.well_m here_m (both.all i) both.older segment none same (swept.labels_from.exact s label at (omega (arith, same))).1 in
-    let rows : (j : ℕ) → is_amended amended j ≡ false → choices_of n.papers j ≡ choices_of m.papers j = λ j other. sym (both.rows j ∙ rows-beside n.papers amended before j other) in
-    let others = unamended both swept i rest here beside segment unmarked in
-    let ends : end_of n.papers i rest ≡ Some s = end-beside m.papers n.papers i rest (rows i beside) (λ p d low. rows (get_or rest p d).student (others p d low)) ∙ ended in
-    false≢true (sym (subst (λ found. IfSome found (λ t. marked t ≡ false)) ends unended) ∙ is)
+-- of a turn's entries the first come of the new run too, and the others name no marked school: all come of it
+pub rest-made : {m n : Cohort} {amended : Option ℕ} {before : List ℕ} {reseated marked : ℕ → Bool} {old new : List (List Rejection)} {k : ℕ} {labels : ℕ → List Label} {list : List Stance} → AreAmended m n amended before reseated old → IsSwept m n amended old new k labels list marked reseated → (i : ℕ) (rest : List Rejection) (p : ℕ) → slice_get (students_of n.papers) k ≡ Some i → is_amended amended i ≡ false → slice_get old k ≡ Some rest → All (IsRefusedToo n.papers marked labels k i) (take p rest) → All (λ e. marked e.school ≡ false) (drop p rest) → AreMadeToo (cut n (k + 1)) marked (is_aside list) (joined new) rest
+rest-made {m} {n} {amended} {before} {reseated} {marked} {old} {new} {k} {labels} {list} both swept i rest p here beside segment refused later =
+    let turn : n.enters i ≡ true = both.entering i beside in
+    let front : List Rejection = take p rest in
+    let valid : IsValidAfter (cut m (k + 1)) (log_at old k) (front ++ drop p rest) = subst (IsValidAfter (cut m (k + 1)) (log_at old k)) (sym (take-append-drop p rest)) (valid-turn m old k rest both.older segment) in
+    let given : Refuses (cut m (k + 1)) n k i labels marked (is_aside list) = record {
+      well = both.well_n;
+      papers = alike-cut list both swept.held swept.always (k + 1);
+      own = swept.own;
+      none = none-before n new k i labels both.well_n here swept.newer swept.as_many swept.labels_before;
+      beside = not-aside both swept i here beside;
+    } in
+    let begins : IsRefusing (cut m (k + 1)) n k i labels marked (is_aside list) (log_at old k) (joined new) = record {
+      logs = agree-next both swept i rest here beside segment;
+      chain = subst (λ x. InChain x (joined new) i) (sym (cut-one n k i here turn)) (chain-begins n.papers (has_entered n k) i (joined new) (subst (λ x. IsSettled x (joined new)) (cut-entered n k) (run-settled n k new swept.newer)));
+      asking = before-asking n new k i labels both.well_n here turn swept.newer swept.as_many swept.labels_before;
+    } in
+    subst (AreMadeToo (cut n (k + 1)) marked (is_aside list) (joined new)) (take-append-drop p rest)
+    (made-join (cut n (k + 1)) marked (is_aside list) (joined new) front (drop p rest)
+    (front-made given front (log_at old k) (joined new) begins (valid-first (cut m (k + 1)) (log_at old k) front (drop p rest) valid) refused)
+    (unmarked-made (cut n (k + 1)) marked (is_aside list) (joined new ++ front) (drop p rest) later))
+
+-- where such a turn ended at no marked school, nobody came to stand at one in it
+pub nobody-marked : {m n : Cohort} {amended : Option ℕ} {before : List ℕ} {reseated marked : ℕ → Bool} {old new : List (List Rejection)} {k : ℕ} {labels : ℕ → List Label} {list : List Stance} → AreAmended m n amended before reseated old → IsSwept m n amended old new k labels list marked reseated → (i : ℕ) (rest : List Rejection) (p : ℕ) → slice_get (students_of n.papers) k ≡ Some i → is_amended amended i ≡ false → slice_get old k ≡ Some rest → All (IsRefusedToo n.papers marked labels k i) (take p rest) → All (λ e. marked e.school ≡ false) (drop p rest) → AreMadeToo (cut n (k + 1)) marked (is_aside list) (joined new) rest → IfSome (end_of n.papers i rest) (λ s. marked s ≡ false) → (j s : ℕ) → marked s ≡ true → StandsAt m old (k + 1) j s → HasAskedBy m old k j s
+nobody-marked {m} {n} {amended} {before} {reseated} {marked} {old} {new} {k} {labels} {list} both swept i rest p here beside segment refused later made unended j s is stands = elim (has_asked (cut m k) (log_at old k) j s) [
+  | inl asked ↦ asked
+  | inr unasked ↦
+      let here_m : slice_get (students_of m.papers) k ≡ Some i = ap (λ xs. slice_get xs k) (sym both.students) ∙ here in
+      let ended : end_of m.papers i rest ≡ Some s = came-at-end m (length (students_of m.papers)) old k i j s rest (take p rest) (drop p rest) both.well_m here_m (both.all i) both.older segment (take-append-drop p rest) (λ q d low. (refused q d low).0) (λ q d low it. false≢true (sym (later q d low) ∙ ap marked it ∙ is)) stands unasked in
+      let rows : (x : ℕ) → is_amended amended x ≡ false → choices_of n.papers x ≡ choices_of m.papers x = λ x other. sym (both.rows x ∙ rows-beside n.papers amended before x other) in
+      let others = unamended both swept i rest here beside segment made in
+      let ends : end_of n.papers i rest ≡ Some s = end-beside m.papers n.papers i rest (rows i beside) (λ q d low. rows (get_or rest q d).student (others q d low)) ∙ ended in
+      absurd (false≢true (sym (subst (λ found. IfSome found (λ t. marked t ≡ false)) ends unended) ∙ is))
+]
 
 -- where the marks follow, the school that is marked throughout is marked
 pub throughout-follow : (m : Market) (list : List Stance) (old new : Marking) (reseated : ℕ → Bool) → MarksFollow m list old new → IsThroughout m old reseated → record { still : IsThroughout m new reseated; always : (s : ℕ) → reseated s ≡ true → marked_in m new.flags s ≡ true }

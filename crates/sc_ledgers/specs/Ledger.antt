@@ -4,10 +4,11 @@ use Rattle.std.specs.Bool.{⊤}
 use Rattle.sc_papers.specs.Market.{Market, choices_of, seats_of, students_of}
 use Rattle.sc_papers.specs.Key.{is_ahead, key_of}
 use Rattle.sc_papers.specs.Matching.{how_many, has}
-use Rattle.sc_papers.specs.Log.{is_rejected, next_choice, matching_of, IsSettled}
+use Rattle.sc_papers.specs.Log.{is_rejected, next_choice, matching_of, IsSettled, IsValidEntry}
 use Rattle.sc_papers.specs.Chain.{held_by_others, InChain, PutsOut as OutOf}
 use Rattle.sc_papers.specs.Restriction.{joined}
 use Rattle.sc_ledgers.specs.Cohort.{Cohort, cut, IsRunTo}
+use Rattle.sc_ledgers.specs.Known.{IsAnswer, IsByKey}
 use Rattle.sc_papers.specs.WellFormed.{WellFormed}
 use Rattle.sc_papers.specs.declared.rejection.Rejection.{Rejection}
 use Rattle.sc_papers.specs.declared.key.Key.{Key}
@@ -80,7 +81,16 @@ pub record AreLabelsFrom (m n : Cohort) (old new : List (List Rejection)) (k : �
   pub exact : (s : ℕ) (label : Label) → Contains (labels s) label → k ≤ label.turn → (label.turn < length old) × IsExact m old s label
   pub complete : (t j s : ℕ) → k ≤ t → t < length old → amended j ≡ false → (HasAskedBy n new k j s → ⊥) → StandsAt m old (t + 1) j s → (HasAskedBy m old t j s → ⊥) → Contains (labels s) (record { key = key_of n.papers j s; turn = t })
 
--- what is known where a student has their turn whose segment stays: it names no marked school, and nobody came to stand at one
+-- entries that the new run makes too: each names a school that is not marked, or is valid there too, and of one who is not aside
+abbrev pub AreMadeToo : Market → (ℕ → Bool) → (ℕ → Bool) → List Rejection → List Rejection → Type 0
+AreMadeToo n marked aside log [] = ⊤
+AreMadeToo n marked aside log (e ∷ rest) = ((marked e.school ≡ false) ⊎ ((aside e.student ≡ false) × IsValidEntry n log e)) × AreMadeToo n marked aside (log ++ e ∷ []) rest
+
+-- a rejection refuses at once the student of the turn, also in the new run: the school is not marked, or refuses them by those who asked it before
+abbrev pub IsRefusedToo : Market → (ℕ → Bool) → (ℕ → List Label) → ℕ → ℕ → Rejection → Type 0
+IsRefusedToo n marked labels k i e = (e.student ≡ i) × ((marked e.school ≡ false) ⊎ ((t : ℕ) × (t + 1 ≡ k) × IsByKey (labels e.school) × IsAnswer t (labels e.school) (seats_of n e.school) (key_of n e.student e.school) Refused))
+
+-- what is known where a student has their turn whose segment stays: the new run makes it too, and nobody came to stand at a marked school
 pub record Stays (m n : Cohort) (old new : List (List Rejection)) (k i : ℕ) (rest : List Rejection) (labels : ℕ → List Label) (marked aside amended : ℕ → Bool) : Type 0 where
   pub well_m : WellFormed m.papers
   pub well_n : WellFormed n.papers
@@ -98,8 +108,8 @@ pub record Stays (m n : Cohort) (old new : List (List Rejection)) (k i : ℕ) (r
   pub from : AreLabelsFrom m n old new k amended labels
   pub enters : aside i ≡ false
   pub segment : slice_get old k ≡ Some rest
-  pub unmarked : All (λ e. marked e.school ≡ false) rest
-  pub nobody : (s : ℕ) (label : Label) → marked s ≡ true → Contains (labels s) label → label.turn ≡ k → ⊥
+  pub made_too : AreMadeToo (cut n (k + 1)) marked aside (joined new) rest
+  pub nobody : (j s : ℕ) → marked s ≡ true → StandsAt m old (k + 1) j s → HasAskedBy m old k j s
 
 -- what is known before the turn at k, whatever the turn does
 pub record AtTurn (m n : Cohort) (old new : List (List Rejection)) (k : ℕ) (labels : ℕ → List Label) (marked aside amended : ℕ → Bool) : Type 0 where

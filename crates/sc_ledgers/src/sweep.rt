@@ -1,23 +1,24 @@
 //! The turns from the rewind point on, each as it was or taken anew.
 
-ghost use Rattle.std.specs.Prelude.{◌≡◌, ◌<◌, ◌+◌, ℕ, Bool, not, All, IfOk, List, [], if◌then◌else◌, IfSome, OnErr, OnOk, Some, true, false, length, slice_get};
+ghost use Rattle.std.specs.Prelude.{◌≡◌, ◌<◌, ◌+◌, ℕ, Bool, not, All, IfOk, List, [], if◌then◌else◌, IfSome, OnErr, OnOk, drop, take, ◌≤◌, Some, true, false, length, slice_get};
 ghost use Rattle.sc_papers.specs.Market.{choices_of, student_at};
 ghost use Rattle.sc_papers.specs.declared.rejection.Rejection.{Rejection};
 ghost use Rattle.sc_ledgers.specs.Cohort.{Cohort};
 ghost use Rattle.sc_ledgers.specs.Course.{labels_of, AreTogether, Begins};
 ghost use Rattle.sc_ledgers.specs.Elsewhere.{cohort_of, first_of, is_aside, still_enters, AreAmong, HasPut};
+ghost use Rattle.sc_ledgers.specs.Ledger.{IsRefusedToo};
 ghost use Rattle.sc_ledgers.specs.Marks.{marked_in};
 ghost use Rattle.sc_ledgers.specs.Proposals.{end_of};
 ghost use Rattle.sc_ledgers.specs.Sweep.{is_amended, AreInRegion, HasRun, IsDue, IsNext, IsRegion, IsRetaken, IsTaken};
 
-use crate::chain::run_chain;
+use crate::chain::{Hand, run_chain};
 use crate::elsewhere::{Run, Stance, Stances};
 use crate::following::{Rows, follow};
-use crate::ledger::Ledger;
+use crate::ledger::{Answer, Ledger};
 use crate::marks::Marks;
 use crate::proposals::choice_after;
 use crate::striking::strike_turn;
-use sc_papers::{FlatPapers, Rejection, SchoolNo};
+use sc_papers::{FlatPapers, Rejection, SchoolNo, Seats, StudentNo};
 use std::alloc::AllocError;
 
 /// Whether the student at a position does not enter in the new run.
@@ -144,18 +145,101 @@ fn end_of(papers: &FlatPapers, position: usize, segment: &[Rejection]) -> Option
     }
 }
 
-/// Whether a turn is as it was: its student is not amended, its segment names no marked school, and it ended at none.
-fn is_still(rows: &Rows<'_>, marks: &Marks, position: usize, segment: &[Rejection]) -> bool
-    requires { position < length rows.now.papers.now.students }
+/// Whether a rejection is of this student, by this school.
+fn is_of(entry: &Rejection, student: StudentNo, school: SchoolNo) -> bool
+    ensures student { result ≡ true → entry.now.student ≡ student }
+    ensures school { result ≡ true → entry.now.school ≡ school }
+{
+    entry.student == student && entry.school == school
+}
+
+/// Whether a rejection is that of the student at a position at the choice of this rank, refused at once as their turn began, and comes of
+/// the new run too: the school is not marked, or is full of others who are ahead by the labels of the turns before.
+fn is_refused_too(
+    rows: &Rows<'_>,
+    ledgers: &[Ledger],
+    marks: &Marks,
+    turn: u32,
+    hand: Hand,
+    entry: &Rejection,
+) -> bool
+    requires within { hand.position < length rows.now.papers.now.students }
+    requires one_each { length ledgers.now ≡ length rows.now.papers.now.schools }
+    ensures { result ≡ true → IsRefusedToo rows.now.papers.now (marked_in rows.now.papers.now marks.now.flags)
+        (labels_of rows.now.papers.now ledgers.now) turn (student_at rows.now.papers.now hand.position) entry.now }
+{
+    let Some(proposal) = rows.papers.proposal(hand.position, hand.rank) else {
+        return false;
+    };
+    let at = proposal.position;
+    let key = proposal.key;
+    if !is_of(entry, key.student, proposal.school) {
+        return false;
+    }
+    if !marks.has(at) {
+        return true;
+    }
+    if turn == 0 {
+        return false;
+    }
+    let seats = rows.papers.seats_at(at).unwrap_or(Seats::NONE);
+    match ledgers[at].ask(seats.get() as usize, turn - 1, &key) {
+        Answer::Refused => true,
+        Answer::Seated | Answer::PutsOut(_) => false,
+    }
+}
+
+/// How many of the first rejections of a turn, in which the student at a position entered, are refusals at once that come of the new run
+/// too.
+fn refusals_too(
+    rows: &Rows<'_>,
+    ledgers: &[Ledger],
+    marks: &Marks,
+    turn: u32,
+    position: usize,
+    segment: &[Rejection],
+) -> usize
+    requires within { position < length rows.now.papers.now.students }
+    requires one_each { length ledgers.now ≡ length rows.now.papers.now.schools }
+    ensures within { result ≤ length segment.now }
+    ensures refused { All (IsRefusedToo rows.now.papers.now (marked_in rows.now.papers.now marks.now.flags)
+        (labels_of rows.now.papers.now ledgers.now) turn (student_at rows.now.papers.now position)) (take result segment.now) }
+{
+    for (rank, entry) in segment.iter().enumerate() {
+        if !is_refused_too(rows, ledgers, marks, turn, Hand { position, rank }, entry) {
+            return rank;
+        }
+    }
+    segment.len()
+}
+
+/// Whether a turn is as it was: its student is not amended, the schools that refused them at once do so still, its segment names no marked
+/// school after that, and it ended at none.
+fn is_still(
+    rows: &Rows<'_>,
+    ledgers: &[Ledger],
+    marks: &Marks,
+    turn: u32,
+    position: usize,
+    segment: &[Rejection],
+) -> bool
+    requires within { position < length rows.now.papers.now.students }
+    requires one_each { length ledgers.now ≡ length rows.now.papers.now.schools }
     ensures beside { result ≡ true → is_amended rows.now.amended (student_at rows.now.papers.now position) ≡ false }
-    ensures unmarked { result ≡ true → All (λ e. marked_in rows.now.papers.now marks.now.flags e.school ≡ false) segment.now }
+    ensures made_too { result ≡ true → (p : ℕ) × All (IsRefusedToo rows.now.papers.now (marked_in rows.now.papers.now marks.now.flags)
+        (labels_of rows.now.papers.now ledgers.now) turn (student_at rows.now.papers.now position)) (take p segment.now)
+        × All (λ e. marked_in rows.now.papers.now marks.now.flags e.school ≡ false) (drop p segment.now) }
     ensures unended { result ≡ true → IfSome (end_of rows.now.papers.now (student_at rows.now.papers.now position) segment.now)
         (λ s. marked_in rows.now.papers.now marks.now.flags s ≡ false) }
 {
     let Some(student) = rows.papers.student_at(position) else {
         unreachable!()
     };
-    if rows.amended == Some(student) || marks.have_any(rows.papers, segment) {
+    if rows.amended == Some(student) {
+        return false;
+    }
+    let refused = refusals_too(rows, ledgers, marks, turn, position, segment);
+    if marks.have_any(rows.papers, &segment[refused..]) {
         return false;
     }
     let end = end_of(rows.papers, position, segment);
@@ -198,7 +282,7 @@ pub(crate) fn take_turn(
         → IsTaken m (cohort_of rows.now) rows.now.amended reseated olds news turn (if anew then chain.new.items else old.now)
         (labels_of rows.now.papers.now ledgers.new.items) stances.new marks.new) }
 {
-    if is_still(rows, marks, position, old) {
+    if is_still(rows, ledgers, marks, turn, position, old) {
         return Ok(false);
     }
     retake(rows, ledgers, stances, turn, position, old, chain)?;

@@ -1,4 +1,5 @@
-use Rattle.std.proofs.Common.{◌≡◌, Bool, not, true, false, refl, IfSome, Option, None, Some, ℕ, sym, subst, ◌∙◌}
+use Rattle.std.proofs.Common.{◌≡◌, Bool, not, true, false, refl, IfSome, Option, None, Some, ℕ, sym, subst, ◌∙◌, ◌-◌, All, drop, length, arith}
+use Rattle.std.proofs.lemmas.List.{length-drop, take_all}
 use Rattle.std.proofs.lemmas.Bool.{false≢true}
 use Rattle.sc_ledgers.specs.Marks.{marked_in}
 use Rattle.sc_ledgers.proofs.sweep.is_still.Goals as goal
@@ -17,3 +18,12 @@ returns-clause-unended c is =
     let n = c.args.rows.now.papers.now in
     subst (λ found. IfSome found (λ s. marked_in n c.args.marks.now.flags s ≡ false)) c.end_of-end.ensures
     (fails c.end_of-end.result (marked_in n c.args.marks.now.flags) c.have.result c.have.ensures (not-true c.have.result is))
+
+pub returns-clause-made_too : goal.returns-clause-made_too
+returns-clause-made_too c is =
+    let rest = c.args.segment.now in
+    let p : ℕ = c.refusals_too-refused.result in (
+      p,
+      c.refusals_too-refused.ensures.refused,
+      subst (All (λ e. marked_in c.args.rows.now.papers.now c.args.marks.now.flags e.school ≡ false)) (take_all (length rest - p) (drop p rest) (omega (arith, length-drop p rest))) (c.have_any.ensures c.if-have_any.false),
+    )

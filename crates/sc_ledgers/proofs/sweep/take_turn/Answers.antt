@@ -1,12 +1,13 @@
-use Rattle.std.proofs.Common.{◌≡◌, sym, subst, ℕ, ◌+◌, ◌<◌, [], ◌∷◌, ◌++◌, Some, IfSome, true, get_or, length, slice_get, arith}
+use Rattle.std.proofs.Common.{◌≡◌, sym, subst, ℕ, ◌+◌, ◌<◌, [], ◌∷◌, ◌++◌, Some, IfSome, true, false, All, drop, take, get_or, length, slice_get, arith}
 use Rattle.std.proofs.lemmas.List.{length-map}
 use Rattle.std.proofs.lemmas.Option.{slice_get-get_or}
 use Rattle.sc_papers.specs.Market.{Market, schools_of, student_at, students_of}
 use Rattle.sc_papers.specs.Restriction.{joined}
-use Rattle.sc_ledgers.specs.Ledger.{log_at}
+use Rattle.sc_ledgers.specs.Course.{labels_of}
+use Rattle.sc_ledgers.specs.Ledger.{log_at, IsRefusedToo}
 use Rattle.sc_ledgers.specs.Marks.{marked_in, IsNamed, MarksFollow}
 use Rattle.sc_ledgers.proofs.Sweeping.{due-of, stays-of, swept-anew, swept-stays}
-use Rattle.sc_ledgers.proofs.Turning.{at-marked, named-inner, named-known, nobody-marked, segment-inside, throughout-follow, turn-within}
+use Rattle.sc_ledgers.proofs.Turning.{at-marked, named-inner, named-known, nobody-marked, rest-made, segment-inside, throughout-follow, turn-within}
 use Rattle.sc_ledgers.proofs.sweep.take_turn.Goals as goal
 
 student-here : (n : Market) (position k : ℕ) → position ≡ k → k < length (students_of n) → slice_get (students_of n) k ≡ Some (student_at n position)
@@ -21,11 +22,15 @@ pub returns-then-is_still-clause-taken : goal.returns-then-is_still-clause-taken
 returns-then-is_still-clause-taken c m olds news reseated next =
     let n = c.args.rows.now.papers.now in
     let k : ℕ = c.args.turn in
-    let marks = c.args.marks.now in
+    let i : ℕ = student_at n c.args.position in
+    let rest = c.args.old.now in
     let still = c.if-is_still.true in
+    let here = student-here n c.args.position k c.requires.first (turn-within next) in
+    let beside = c.is_still.ensures.beside still in
+    let (p, refused, later) = subst (λ ledgers. (p : ℕ) × All (IsRefusedToo n (marked_in n c.args.marks.now.flags) (labels_of n ledgers) k i) (take p rest) × All (λ e. marked_in n c.args.marks.now.flags e.school ≡ false) (drop p rest)) c.deref.ensures.value (c.is_still.ensures.made_too still) in
+    let made = rest-made next.both next.swept i rest p here beside next.here refused later in
     record {
-      swept = swept-stays (stays-of next.both next.swept (student_at n c.args.position) c.args.old.now (student-here n c.args.position k c.requires.first (turn-within next)) (c.is_still.ensures.beside still) next.here (c.is_still.ensures.unmarked still)
-          (nobody-marked next.both next.swept (student_at n c.args.position) c.args.old.now (student-here n c.args.position k c.requires.first (turn-within next)) (c.is_still.ensures.beside still) next.here (c.is_still.ensures.unmarked still) (c.is_still.ensures.unended still))) next.swept;
+      swept = swept-stays (stays-of next.both next.swept i rest here beside next.here made (nobody-marked next.both next.swept i rest p here beside next.here refused later made (c.is_still.ensures.unended still))) next.swept;
       throughout = next.throughout;
     }
 
