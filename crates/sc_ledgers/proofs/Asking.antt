@@ -1,8 +1,8 @@
 -- The steps of a chain that goes by labels.
-use Rattle.std.proofs.Common.{◌≡◌, inl, inr, ap, sym, subst, ◌∙◌, ℕ, ◌≤◌, ◌<◌, ◌+◌, suc, List, [], ◌∷◌, ◌++◌, length, take, drop, get_or, Some, Contains, arith}
+use Rattle.std.proofs.Common.{◌≡◌, inl, inr, ap, sym, subst, ◌∙◌, ℕ, ◌≤◌, List, [], ◌∷◌, ◌++◌, Some, Contains, arith}
 use Rattle.std.proofs.lemmas.Bool.{cases_eq}
 use Rattle.std.proofs.lemmas.Option.{same_Some}
-use Rattle.sc_papers.specs.Market.{Market, seats_of}
+use Rattle.sc_papers.specs.Market.{Market}
 use Rattle.sc_papers.specs.WellFormed.{WellFormed}
 use Rattle.sc_papers.specs.Key.{key_of}
 use Rattle.sc_papers.specs.Log.{next_choice}
@@ -13,8 +13,8 @@ use Rattle.sc_papers.proofs.Rejections.{next-same}
 use Rattle.sc_ledgers.specs.Ledger.{HasAsked, IsAsking, IsNoted}
 use Rattle.sc_ledgers.specs.declared.ledger.Label.{Label}
 use Rattle.sc_ledgers.specs.Known.{known, IsByKey}
-use Rattle.sc_ledgers.proofs.Held.{Filled, Given}
-use Rattle.sc_ledgers.proofs.Knowing.{known-ascending, known-at, known-label, label-known}
+use Rattle.sc_ledgers.proofs.Held.{Given}
+use Rattle.sc_ledgers.proofs.Knowing.{known-ascending, known-label, label-known}
 use Rattle.sc_ledgers.proofs.Others.{others-stay}
 use Rattle.sc_ledgers.proofs.Staying.{asked-push}
 

@@ -1,13 +1,13 @@
 -- Where the chain of a turn ended: whoever came to a school in it came to one that its segment names, or to that one.
-use Rattle.std.proofs.Common.{◌≡◌, ◌⊎◌, inl, inr, refl, ap, sym, subst, ◌∙◌, ℕ, suc, ◌+◌, ◌-◌, Bool, true, false, List, [], ◌∷◌, ◌++◌, length, get_or, slice_get, Option, Some, None, All, Contains, IfSome, append_assoc, append-nil, arith}
+use Rattle.std.proofs.Common.{◌≡◌, inl, inr, refl, ap, sym, subst, ◌∙◌, ℕ, suc, ◌+◌, ◌-◌, Bool, true, List, [], ◌∷◌, ◌++◌, length, get_or, slice_get, Option, Some, All, append_assoc, append-nil, arith}
 use Rattle.std.specs.Option.{option_map_or}
-use Rattle.std.proofs.lemmas.Bool.{cases_eq, false_from_ne_true, false≢true}
+use Rattle.std.proofs.lemmas.Bool.{cases_eq}
 use Rattle.std.proofs.lemmas.List.Elements.{All-head, All-tail}
 use Rattle.std.proofs.lemmas.Option.{same_Some, slice_get-get_or, slice_get_within}
 use Rattle.sc_papers.specs.Market.{Market, choices_of, students_of}
 use Rattle.sc_papers.specs.WellFormed.{WellFormed}
-use Rattle.sc_papers.specs.Log.{next_choice, IsSettled, IsValidAfter, IsValidLog}
-use Rattle.sc_papers.specs.Chain.{and_one, InChain}
+use Rattle.sc_papers.specs.Log.{next_choice, IsSettled, IsValidAfter}
+use Rattle.sc_papers.specs.Chain.{InChain}
 use Rattle.sc_papers.specs.declared.rejection.Rejection.{Rejection}
 use Rattle.sc_papers.proofs.Chain.{chain-begins, chain-puts-out}
 use Rattle.sc_papers.proofs.Rejections.{next-same}

@@ -38,6 +38,7 @@ pub mod Staying
 pub mod Stepping
 pub mod Struck
 pub mod Sweeping
+pub mod TurnEnds
 pub mod TurnPlaces
 pub mod Turning
 pub mod TurnsCounted

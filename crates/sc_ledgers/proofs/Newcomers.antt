@@ -42,8 +42,11 @@ cut-last m position well last =
     ∙ cut-all m (position + 1) (omega (arith, last, length-map m.students (λ e. e.0)))
 
 module _ (m : Market) (position : ℕ) (segments : List (List Rejection)) (labels : ℕ → List Label) (well : WellFormed m) (last : length m.students ≡ position + 1) (given : AreWhole (all_of (whole.cut m position)) segments labels) where
-  as_many : length segments ≡ position
+  pub as_many : length segments ≡ position
   as_many = given.run.one_each ∙ length-students_cut m position (omega (arith, last, length-map m.students (λ e. e.0)))
+
+  pub few-run : IsRunTo (all_of (whole.cut m position)) position segments
+  few-run = subst (λ k. IsRunTo (all_of (whole.cut m position)) k segments) (length-students_cut m position (omega (arith, last, length-map m.students (λ e. e.0)))) given.run
 
   -- what is known of the run, in the words of all papers
   newer : IsRunTo (all_of m) position segments

@@ -2,7 +2,6 @@
 use Rattle.std.proofs.Common.{◌≡◌, inl, inr, refl, ap, sym, subst, ◌∙◌, ℕ, ◌≤◌, ◌+◌, ◌-◌, Bool, false, List, length, take, Contains, arith}
 use Rattle.std.proofs.lemmas.Bool.{cases_lt}
 use Rattle.std.proofs.lemmas.List.{length-take-le, take-take}
-use Rattle.sc_papers.specs.Market.{students_of}
 use Rattle.sc_papers.specs.Key.{key_of}
 use Rattle.sc_papers.specs.Log.{is_rejected, next_choice}
 use Rattle.sc_papers.specs.Restriction.{joined}

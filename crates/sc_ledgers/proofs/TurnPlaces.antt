@@ -133,7 +133,7 @@ turn-places n m few test well_n well_m part log hand [] chain valid none =
 turn-places n m few test well_n well_m part log hand (e ∷ rest) chain valid none = entries-places n m few test well_n well_m part log hand e rest chain valid none
 
 -- a student of the papers has choices
-choices-some : (m : Market) → WellFormed m → (i : ℕ) → is_student m i ≡ true → 0 < length (choices_of m i)
+pub choices-some : (m : Market) → WellFormed m → (i : ℕ) → is_student m i ≡ true → 0 < length (choices_of m i)
 unfolding choices_of
 choices-some m well i known = go (student_of m i) (All-lookup (IsProper m) (nat_eq i) m.students well.students_proper) known
   where

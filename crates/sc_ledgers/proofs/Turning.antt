@@ -1,9 +1,7 @@
 -- A turn is taken, and the marks follow.
-use Rattle.std.proofs.Common.{◌≡◌, inl, inr, refl, ap, sym, subst, ◌∙◌, ℕ, ◌≤◌, ◌<◌, ◌+◌, ◌-◌, Bool, not, true, false, List, [], ◌++◌, drop, take, length, get_or, nat_eq, position, slice_get, Option, Some, None, All, Contains, IfSome, ◌==◌, arith}
-use Rattle.std.specs.Option.{option_and_then, option_map_or}
-use Rattle.std.proofs.lemmas.Bool.{cases_eq, false≢true}
+use Rattle.std.proofs.Common.{◌≡◌, inl, inr, refl, ap, sym, subst, ◌∙◌, ℕ, ◌<◌, ◌+◌, Bool, not, true, false, List, [], ◌++◌, drop, take, length, get_or, nat_eq, position, slice_get, Option, Some, None, All, Contains, IfSome, arith}
+use Rattle.std.proofs.lemmas.Bool.{false≢true}
 use Rattle.std.proofs.lemmas.List.{get_or_default, take-append-drop}
-use Rattle.std.proofs.lemmas.List.Elements.{All-contains}
 use Rattle.std.proofs.lemmas.Option.{get_or_from_slice_get, slice_get_within}
 use Rattle.sc_papers.specs.Market.{Market, choices_of, schools_of, students_of}
 use Rattle.sc_papers.specs.WellFormed.{WellFormed}
@@ -15,11 +13,12 @@ use Rattle.sc_papers.proofs.Positions.{position-there, school-position}
 use Rattle.sc_papers.proofs.Students.{choice-known}
 use Rattle.sc_papers.proofs.Validity.{next-listed}
 use Rattle.sc_ledgers.specs.Cohort.{Cohort, cut, has_entered}
-use Rattle.sc_ledgers.specs.Course.{labels_at, labels_of, AreTogether}
+use Rattle.sc_ledgers.specs.Course.{AreTogether}
+use Rattle.sc_ledgers.specs.Ends.{place_of}
 use Rattle.sc_ledgers.specs.Elsewhere.{is_aside, AreAmong, AreAtMarked, AreStances}
 use Rattle.sc_ledgers.specs.Ledger.{log_at, AreMadeToo, HasAskedBy, IsRefusedToo, StandsAt}
 use Rattle.sc_ledgers.specs.Marks.{flag_at, marked_in, IsNamed, Marking, MarksFollow}
-use Rattle.sc_ledgers.specs.Proposals.{choice_after, end_of}
+use Rattle.sc_ledgers.specs.Proposals.{end_of}
 use Rattle.sc_papers.specs.Restriction.{entries_of, joined, outside, AreApart}
 use Rattle.sc_weave.proofs.Part.{segment-fails}
 use Rattle.sc_ledgers.specs.Sweep.{is_amended, AreAmended, IsNext, IsRegion, IsSwept, IsThroughout}
@@ -35,16 +34,7 @@ use Rattle.sc_ledgers.proofs.Refusing.{before-asking, front-made, IsRefusing, Re
 use Rattle.sc_ledgers.proofs.Running.{none-before}
 use Rattle.sc_ledgers.proofs.Staying.{has_asked, valid-turn}
 use Rattle.sc_ledgers.proofs.Sweeping.{agree-next, alike-cut, not-aside, unamended}
-
--- a turn ended alike in both papers, where neither who entered nor anybody whom its segment names is amended
-end-beside : (m n : Market) (i : ℕ) (rest : List Rejection) → choices_of n i ≡ choices_of m i → All (λ e. choices_of n e.student ≡ choices_of m e.student) rest → end_of n i rest ≡ end_of m i rest
-unfolding end_of choice_after
-end-beside m n i rest first later = go (slice_get rest (length rest - 1)) refl
-  where
-    go : (last : Option Rejection) → slice_get rest (length rest - 1) ≡ last → option_map_or (choice_after n) last (slice_get (choices_of n i) 0) ≡ option_map_or (choice_after m) last (slice_get (choices_of m i) 0)
-    go None none = ap (λ xs. slice_get xs 0) first
-    go (Some e) at = ap (λ xs. option_and_then (λ rank. slice_get xs (rank + 1)) (position (λ s. s == e.school) xs))
-        (All-contains (λ x. choices_of n x.student ≡ choices_of m x.student) rest e later (length rest - 1, slice_get_within rest (length rest - 1) e at, get_or_from_slice_get rest (length rest - 1) e e at))
+use Rattle.sc_ledgers.proofs.TurnEnds.{end-beside}
 
 -- of a turn's entries the first come of the new run too, and the others name no marked school: all come of it
 pub rest-made : {m n : Cohort} {amended : Option ℕ} {before : List ℕ} {reseated marked : ℕ → Bool} {old new : List (List Rejection)} {k : ℕ} {labels : ℕ → List Label} {list : List Stance} → AreAmended m n amended before reseated old → IsSwept m n amended old new k labels list marked reseated → (i : ℕ) (rest : List Rejection) (p : ℕ) → slice_get (students_of n.papers) k ≡ Some i → is_amended amended i ≡ false → slice_get old k ≡ Some rest → All (IsRefusedToo n.papers marked labels k i) (take p rest) → All (λ e. marked e.school ≡ false) (drop p rest) → AreMadeToo (cut n (k + 1)) marked (is_aside list) (joined new) rest
@@ -68,6 +58,15 @@ rest-made {m} {n} {amended} {before} {reseated} {marked} {old} {new} {k} {labels
     (made-join (cut n (k + 1)) marked (is_aside list) (joined new) front (drop p rest)
     (front-made given front (log_at old k) (joined new) begins (valid-first (cut m (k + 1)) (log_at old k) front (drop p rest) valid) refused)
     (unmarked-made (cut n (k + 1)) marked (is_aside list) (joined new ++ front) (drop p rest) later))
+
+-- where a turn ended at no marked place, it ended at no marked school
+pub unended : (m : Market) (flags : List Bool) (found end : Option ℕ) → end ≡ place_of m found → IfSome end (λ place. get_or flags place false ≡ false) → IfSome found (λ s. marked_in m flags s ≡ false)
+unended m flags None end is told = tt
+unended m flags (Some s) end is told = go (position (nat_eq s) (schools_of m)) (subst (λ o. IfSome o (λ place. get_or flags place false ≡ false)) is told)
+  where
+    go : (place : Option ℕ) → IfSome place (λ p. get_or flags p false ≡ false) → flag_at flags place ≡ false
+    go None none = refl
+    go (Some p) none = none
 
 -- where such a turn ended at no marked school, nobody came to stand at one in it
 pub nobody-marked : {m n : Cohort} {amended : Option ℕ} {before : List ℕ} {reseated marked : ℕ → Bool} {old new : List (List Rejection)} {k : ℕ} {labels : ℕ → List Label} {list : List Stance} → AreAmended m n amended before reseated old → IsSwept m n amended old new k labels list marked reseated → (i : ℕ) (rest : List Rejection) (p : ℕ) → slice_get (students_of n.papers) k ≡ Some i → is_amended amended i ≡ false → slice_get old k ≡ Some rest → All (IsRefusedToo n.papers marked labels k i) (take p rest) → All (λ e. marked e.school ≡ false) (drop p rest) → AreMadeToo (cut n (k + 1)) marked (is_aside list) (joined new) rest → IfSome (end_of n.papers i rest) (λ s. marked s ≡ false) → (j s : ℕ) → marked s ≡ true → StandsAt m old (k + 1) j s → HasAskedBy m old k j s

@@ -7,6 +7,7 @@ use Rattle.sc_papers.specs.WellFormed.{WellFormed}
 use Rattle.sc_papers.specs.declared.rejection.Rejection.{Rejection}
 use Rattle.sc_ledgers.specs.Cohort.{cohort, cut}
 use Rattle.sc_ledgers.specs.Elsewhere.{cohort_of, is_aside, is_same, old_row, AreAmong, AreStances}
+use Rattle.sc_ledgers.specs.Ends.{AreEnds}
 use Rattle.sc_ledgers.specs.Opening.{everybody}
 use Rattle.sc_ledgers.specs.Renewed.{anew, AreTurnsOf, Renewed}
 use Rattle.sc_ledgers.specs.Sweep.{is_amended, IsRegion}
@@ -21,9 +22,9 @@ is_reseated m None s = false
 is_reseated m (Some place) s = is_same (position (nat_eq s) (schools_of m)) (Some place)
 
 -- an amendment led from papers m to others: one student at most has other choices or may leave, one school at most has other seats, and the
--- students before a point are as they were. The labels are those of a whole run of m, and those that are left of them are all but the
+-- students before a point are as they were. The labels and the ends are those of a whole run of m, and the labels that are left are all but the
 -- amended student's. The positions are those of the region's students from the point on.
-pub record StartsAnew (m : Market) (rows : Rows) (test inner : ℕ → Bool) (old : List (List Rejection)) (point : ℕ) (labels started : ℕ → List Label) (positions : List ℕ) (place : Option ℕ) : Type 0 where
+pub record StartsAnew (m : Market) (rows : Rows) (test inner : ℕ → Bool) (old : List (List Rejection)) (point : ℕ) (labels started : ℕ → List Label) (ends : List (Option ℕ)) (positions : List ℕ) (place : Option ℕ) : Type 0 where
   pub well_formed : WellFormed m
   pub well_new : WellFormed rows.papers.now
   pub students : students_of rows.papers.now ≡ students_of m
@@ -32,6 +33,7 @@ pub record StartsAnew (m : Market) (rows : Rows) (test inner : ℕ → Bool) (ol
   pub seats : (s : ℕ) → is_reseated rows.papers.now place s ≡ false → seats_of rows.papers.now s ≡ seats_of m s
   pub keys : (j s : ℕ) → is_amended rows.amended j ≡ false → key_of rows.papers.now j s ≡ key_of m j s
   pub whole : AreWhole (cohort m everybody) old labels
+  pub ended : AreEnds m old ends
   pub kept : (s : ℕ) (label : Label) → Contains (labels s) label → is_amended rows.amended label.key.student ≡ false → Contains (started s) label
   pub only : (s : ℕ) (label : Label) → Contains (started s) label → Contains (labels s) label
   pub gone : (s : ℕ) (label : Label) → Contains (started s) label → is_amended rows.amended label.key.student ≡ false
@@ -42,10 +44,11 @@ pub record StartsAnew (m : Market) (rows : Rows) (test inner : ℕ → Bool) (ol
   pub inside : IfSome place (λ p. inner (get_or (schools_of rows.papers.now) p 0) ≡ true)
   pub turns : AreTurnsOf rows.papers.now test point (length old) positions
 
--- the turns were taken anew: the segments, of which those of some turns from the point on have given way, and the labels are a run of the new
+-- the turns were taken anew: the segments, of which those of some turns from the point on have given way, and the labels and the ends are a run of the new
 -- papers, and the stances tell who stands elsewhere after the last turn
-pub record EndsAnew (m : Market) (rows : Rows) (test : ℕ → Bool) (old : List (List Rejection)) (point : ℕ) (renewed : Renewed) (labels : ℕ → List Label) (list : List Stance) : Type 0 where
+pub record EndsAnew (m : Market) (rows : Rows) (test : ℕ → Bool) (old : List (List Rejection)) (point : ℕ) (renewed : Renewed) (labels : ℕ → List Label) (ends : List (Option ℕ)) (list : List Stance) : Type 0 where
   pub whole : AreWhole (cohort_of rows) (anew old renewed) labels
+  pub ended : AreEnds rows.papers.now (anew old renewed) ends
   pub one_each : length renewed.positions ≡ length renewed.chains
   pub later : (p : ℕ) → Contains renewed.positions p → point ≤ p
   pub within : (p : ℕ) → Contains renewed.positions p → p < length old

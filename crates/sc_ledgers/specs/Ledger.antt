@@ -1,5 +1,5 @@
 -- What the keys of those who ever stood at a school tell of those who stand there.
-use Rattle.std.specs.Prelude.{◌≡◌, ◌⊎◌, ℕ, ◌≤◌, ◌<◌, ◌+◌, ◌&&◌, ◌==◌, Bool, not, false, true, List, [], ◌∷◌, ◌++◌, Some, Contains, All, length, slice_get, take}
+use Rattle.std.specs.Prelude.{◌≡◌, ◌⊎◌, ℕ, ◌≤◌, ◌<◌, ◌+◌, ◌&&◌, ◌==◌, Bool, not, false, true, List, [], ◌∷◌, ◌++◌, Some, Contains, length, slice_get, take}
 use Rattle.std.specs.Bool.{⊤}
 use Rattle.sc_papers.specs.Market.{Market, choices_of, seats_of, students_of}
 use Rattle.sc_papers.specs.Key.{is_ahead, key_of}

@@ -2,6 +2,7 @@ pub mod Anew
 pub mod Cohort
 pub mod Course
 pub mod Elsewhere
+pub mod Ends
 pub mod Entered
 pub mod Known
 pub mod Ledger

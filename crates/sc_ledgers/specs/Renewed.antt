@@ -6,11 +6,12 @@ use Rattle.sc_checkpoint.specs.Chains.{logs_in, replaced, students_in, Chain}
 use Rattle.sc_ledgers.specs.Cohort.{Cohort}
 use Rattle.sc_ledgers.specs.Course.{labels_of}
 use Rattle.sc_ledgers.specs.Elsewhere.{cohort_of}
+use Rattle.sc_ledgers.specs.Ends.{AreEndsTo}
 use Rattle.sc_ledgers.specs.Marks.{marked_in, Marking}
 use Rattle.sc_ledgers.specs.Sweep.{AreAmended, AreInRegion, IsRegion, IsSwept, IsThroughout}
 use Rattle.sc_ledgers.specs.declared.elsewhere.Stance.{Stance}
 use Rattle.sc_ledgers.specs.declared.following.Rows.{Rows}
-use Rattle.sc_ledgers.specs.declared.ledger.Label.{Label}
+use Rattle.sc_ledgers.specs.declared.opened.Ledgers.{Ledgers}
 
 -- at which positions, and their segments
 pub record Renewed : Type 0 where
@@ -35,16 +36,17 @@ AreTurnsOf n test from end [] = NoneBetween n test from end
 AreTurnsOf n test from end (p ∷ positions) = (from ≤ p) × (p < end) × NoneBetween n test from p × (test (student_at n p) ≡ true) × AreTurnsOf n test (p + 1) end positions
 
 -- what is known in the course of a sweep, before the turn at k
-pub record IsSweeping (m : Cohort) (rows : Rows) (reseated test inner : ℕ → Bool) (old : List (List Rejection)) (renewed : Renewed) (k : ℕ) (ledgers : List (List Label)) (list : List Stance) (marks : Marking) : Type 0 where
+pub record IsSweeping (m : Cohort) (rows : Rows) (reseated test inner : ℕ → Bool) (old : List (List Rejection)) (renewed : Renewed) (k : ℕ) (ledgers : Ledgers) (list : List Stance) (marks : Marking) : Type 0 where
   pub both : AreAmended m (cohort_of rows) rows.amended rows.before.now reseated old
   pub region : IsRegion m.papers rows.papers.now rows.amended test inner
-  pub swept : IsSwept m (cohort_of rows) rows.amended old (take k (anew old renewed)) k (labels_of rows.papers.now ledgers) list (marked_in rows.papers.now marks.flags) reseated
+  pub swept : IsSwept m (cohort_of rows) rows.amended old (take k (anew old renewed)) k (labels_of rows.papers.now ledgers.schools.items) list (marked_in rows.papers.now marks.flags) reseated
+  pub ended : AreEndsTo rows.papers.now rows.amended (anew old renewed) k ledgers.ends
   pub throughout : IsThroughout rows.papers.now marks reseated
   pub inside : AreInRegion rows.papers.now test inner list marks
   pub as_many : length renewed.positions ≡ length renewed.chains
   pub before : (p : ℕ) → Contains renewed.positions p → p < k
 
 -- a sweep is under way: these turns are left
-abbrev pub IsUnderWay : Cohort → Rows → (ℕ → Bool) → (ℕ → Bool) → (ℕ → Bool) → List (List Rejection) → Renewed → List (List Label) → List Stance → Marking → List ℕ → Type 0
+abbrev pub IsUnderWay : Cohort → Rows → (ℕ → Bool) → (ℕ → Bool) → (ℕ → Bool) → List (List Rejection) → Renewed → Ledgers → List Stance → Marking → List ℕ → Type 0
 IsUnderWay m rows reseated test inner old renewed ledgers list marks positions =
     (k : ℕ) × IsSweeping m rows reseated test inner old renewed k ledgers list marks × AreTurnsOf rows.papers.now test k (length old) positions

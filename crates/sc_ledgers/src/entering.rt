@@ -7,14 +7,16 @@ ghost use Rattle.sc_papers.specs.declared.rejection.Rejection.{Rejection};
 ghost use Rattle.sc_ledgers.specs.Cohort.{cohort};
 ghost use Rattle.sc_ledgers.specs.Course.{labels_of};
 ghost use Rattle.sc_ledgers.specs.Elsewhere.{HasPut};
+ghost use Rattle.sc_ledgers.specs.Ends.{AreEnds};
 ghost use Rattle.sc_ledgers.specs.Entered.{HasEntered};
 ghost use Rattle.sc_ledgers.specs.Opening.{everybody};
 ghost use Rattle.sc_ledgers.specs.Whole.{AreWhole};
 
 use crate::elsewhere::{Stance, Stances};
 use crate::following::Rows;
-use crate::ledger::Ledger;
+use crate::opened::Ledgers;
 use crate::passage::turn_at;
+use crate::proposals::end_place;
 use crate::sweep::run_turn;
 use sc_papers::{FlatPapers, MOST_STUDENTS, Rejection};
 use std::alloc::AllocError;
@@ -41,26 +43,28 @@ fn stand_first(
 }
 
 /// Lets the last student of the papers enter, after all others, whose run the labels are of: their chain runs, each school notes whom it
-/// takes, and the stances tell who stands elsewhere afterwards; the newcomer has one in any case. The list for the chain is empty before
+/// takes, it is kept where the chain ends, and the stances tell who stands elsewhere afterwards; the newcomer has one in any case. The list for the chain is empty before
 /// it. After a refused growth the ledgers and the stances are to be given up.
 pub fn enter_last(
     papers: &FlatPapers,
-    ledgers: &mut Vec<Ledger>,
+    ledgers: &mut Ledgers,
     stances: &mut Stances,
     position: usize,
     chain: &mut Vec<Rejection>,
 ) -> Result<(), AllocError>
-    requires one_each { length ledgers.old.items ≡ length papers.now.schools }
+    requires one_each { length ledgers.old.schools.items ≡ length papers.now.schools }
     requires last { length papers.now.students ≡ position + 1 }
     requires none { chain.old.items ≡ [] }
     requires nobody { stances.old ≡ [] }
     requires whole { (segments : List (List Rejection))
-        × AreWhole (cohort (cut papers.now position) everybody) segments (labels_of papers.now ledgers.old.items) }
-    ensures one_each { length ledgers.new.items ≡ length papers.now.schools }
+        × AreWhole (cohort (cut papers.now position) everybody) segments (labels_of papers.now ledgers.old.schools.items)
+        × AreEnds (cut papers.now position) segments ledgers.old.ends }
+    ensures one_each { length ledgers.new.schools.items ≡ length papers.now.schools }
     ensures entered { OnOk result ((segments : List (List Rejection))
-        → AreWhole (cohort (cut papers.now position) everybody) segments (labels_of papers.now ledgers.old.items)
+        → AreWhole (cohort (cut papers.now position) everybody) segments (labels_of papers.now ledgers.old.schools.items)
+        → AreEnds (cut papers.now position) segments ledgers.old.ends
         → HasEntered papers.now (student_at papers.now position) segments chain.new.items
-        (labels_of papers.now ledgers.new.items) stances.new) }
+        (labels_of papers.now ledgers.new.schools.items) ledgers.new.ends stances.new) }
 {
     // This call tells that the papers are well-formed.
     prove!(papers.students_len() <= MOST_STUDENTS);
@@ -72,6 +76,9 @@ pub fn enter_last(
         before: &[],
         leaves: false,
     };
-    run_turn(&rows, ledgers, stances, turn, position, chain)?;
+    let schools = &mut ledgers.schools;
+    run_turn(&rows, schools, stances, turn, position, chain)?;
+    let end = end_place(papers, position, chain.as_slice());
+    ledgers.ends.push(end)?;
     Ok(())
 }

@@ -5,6 +5,7 @@
 mod anew;
 mod chain;
 mod elsewhere;
+mod ends;
 mod entering;
 mod following;
 mod leaving;
@@ -20,11 +21,12 @@ mod sweep;
 
 pub use anew::{Outcome, take_anew};
 pub use elsewhere::{Stance, Stances};
+pub use ends::Ends;
 pub use entering::enter_last;
 pub use following::Rows;
 pub use leaving::leave;
 pub use ledger::Ledger;
-pub use opened::open_ledgers;
+pub use opened::{Ledgers, open_ledgers};
 pub use proposals::proposals_at;
 pub use renewal::Renewal;
 pub use striking::strike_student;

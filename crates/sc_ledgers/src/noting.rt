@@ -8,14 +8,17 @@ ghost use Rattle.sc_papers.specs.Restriction.{IsSegmented};
 ghost use Rattle.sc_papers.specs.WellFormed.{WellFormed};
 ghost use Rattle.sc_checkpoint.specs.Chains.{logs_in};
 ghost use Rattle.sc_ledgers.specs.Cohort.{cohort};
+ghost use Rattle.sc_ledgers.specs.Ends.{AreEnds};
 ghost use Rattle.sc_ledgers.specs.Known.{HasEachKey};
 ghost use Rattle.sc_ledgers.specs.Opening.{everybody, AreNoted, IsNotedAt};
 ghost use Rattle.sc_ledgers.specs.Whole.{AreWhole};
 ghost use Rattle.sc_ledgers.specs.declared.ledger.Label.{Label};
 
 use crate::chain::{Hand, hand_after};
+use crate::ends::Ends;
 use crate::ledger::{Label, Ledger};
 use crate::passage::turn_at;
+use crate::proposals::end_place;
 use sc_checkpoint::Segments;
 use sc_papers::{FlatPapers, Rejection};
 use std::alloc::{AllocError, Global};
@@ -130,28 +133,28 @@ pub fn note_turn(
     Ok(())
 }
 
-/// Notes who asks where in each turn of a whole run, of which these are the segments. The lists are empty before it.
+/// Notes who asks where in each turn of a whole run, of which these are the segments, and where it ends. The lists are empty before it.
 pub fn note_all(
     papers: &FlatPapers,
     lists: &mut Vec<Labels>,
+    ends: &mut Ends,
     segments: &Segments,
 ) -> Result<(), AllocError>
     requires well { WellFormed papers.now }
     requires run { IsSegmented papers.now (logs_in segments.now) }
     requires one_each { length lists.old.items ≡ length papers.now.schools }
     requires empty { (s : ℕ) (label : Label) → Contains (labels_of papers.now lists.old.items s) label → ⊥ }
+    requires none { ends.old ≡ [] }
     ensures one_each { length lists.new.items ≡ length papers.now.schools }
     ensures whole { OnOk result (AreWhole (cohort papers.now everybody) (logs_in segments.now)
         (labels_of papers.now lists.new.items)) }
+    ensures ends { OnOk result (AreEnds papers.now (logs_in segments.now) ends.new) }
 {
     for position in 0..segments.len() {
-        note_turn(
-            papers,
-            lists,
-            turn_at(papers, position),
-            position,
-            segments.segment(position),
-        )?;
+        let segment = segments.segment(position);
+        let turn = turn_at(papers, position);
+        note_turn(papers, lists, turn, position, segment)?;
+        ends.push(end_place(papers, position, segment))?;
     }
     Ok(())
 }

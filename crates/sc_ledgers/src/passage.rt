@@ -9,8 +9,9 @@ ghost use Rattle.sc_ledgers.specs.Renewed.{AreTheirs, IsSweeping, IsUnderWay};
 
 use crate::elsewhere::Stances;
 use crate::following::Rows;
-use crate::ledger::Ledger;
 use crate::marks::Marks;
+use crate::opened::Ledgers;
+use crate::proposals::end_place;
 use crate::renewal::Renewal;
 use crate::sweep::take_turn;
 use sc_checkpoint::Segments;
@@ -31,7 +32,7 @@ pub(crate) fn turn_at(papers: &FlatPapers, position: usize) -> u32
 /// and after it. After a refused growth all is to be given up.
 fn take_next(
     rows: &Rows<'_>,
-    ledgers: &mut Vec<Ledger>,
+    ledgers: &mut Ledgers,
     stances: &mut Stances,
     marks: &mut Marks,
     segments: &Segments,
@@ -39,25 +40,31 @@ fn take_next(
     renewal: &mut Renewal,
     chain: &mut Vec<Rejection>,
 ) -> Result<(), AllocError>
-    requires one_each { length ledgers.old.items ≡ length rows.now.papers.now.schools }
+    requires one_each { length ledgers.old.schools.items ≡ length rows.now.papers.now.schools }
     requires none { chain.old.items ≡ [] }
     requires flagged { length marks.old.flags ≡ length rows.now.papers.now.schools }
     requires within { position < length segments.now }
     requires sweeping { (m : Cohort) × (reseated : ℕ → Bool) × (test : ℕ → Bool) × (inner : ℕ → Bool)
-        × IsSweeping m rows.now reseated test inner (logs_in segments.now) renewal.old position ledgers.old.items stances.old marks.old }
-    ensures one_each { length ledgers.new.items ≡ length rows.now.papers.now.schools }
+        × IsSweeping m rows.now reseated test inner (logs_in segments.now) renewal.old position ledgers.old stances.old marks.old }
+    ensures one_each { length ledgers.new.schools.items ≡ length rows.now.papers.now.schools }
     ensures none { OnOk result (chain.new.items ≡ []) }
     ensures here { OnOk result ((p : ℕ) → Contains renewal.new.positions p → Contains renewal.old.positions p ⊎ (p ≡ position)) }
     ensures flagged { OnOk result (length marks.new.flags ≡ length rows.now.papers.now.schools) }
     ensures swept { OnOk result ((m : Cohort) (reseated test inner : ℕ → Bool)
-        → IsSweeping m rows.now reseated test inner (logs_in segments.now) renewal.old position ledgers.old.items stances.old marks.old
+        → IsSweeping m rows.now reseated test inner (logs_in segments.now) renewal.old position ledgers.old stances.old marks.old
         → test (student_at rows.now.papers.now position) ≡ true
-        → IsSweeping m rows.now reseated test inner (logs_in segments.now) renewal.new (position + 1) ledgers.new.items stances.new marks.new) }
+        → IsSweeping m rows.now reseated test inner (logs_in segments.now) renewal.new (position + 1) ledgers.new stances.new marks.new) }
     ensures owners { OnOk result (AreTheirs (students_in segments.now) renewal.old → AreTheirs (students_in segments.now) renewal.new) }
 {
     let turn = turn_at(rows.papers, position);
     let old = segments.segment(position);
-    if take_turn(rows, ledgers, stances, marks, turn, position, old, chain)? {
+    let end = ledgers.ends.get(position);
+    let schools = &mut ledgers.schools;
+    if take_turn(
+        rows, schools, stances, marks, turn, position, old, end, chain,
+    )? {
+        let end = end_place(rows.papers, position, chain.as_slice());
+        ledgers.ends.set(position, end);
         renewal.push(position, segments.student(position), chain.as_slice())?;
         chain.clear();
     }
@@ -69,22 +76,22 @@ fn take_next(
 pub(crate) fn sweep(
     alloc: Global,
     rows: &Rows<'_>,
-    ledgers: &mut Vec<Ledger>,
+    ledgers: &mut Ledgers,
     stances: &mut Stances,
     marks: &mut Marks,
     segments: &Segments,
     positions: &[usize],
     renewal: &mut Renewal,
 ) -> Result<(), AllocError>
-    requires one_each { length ledgers.old.items ≡ length rows.now.papers.now.schools }
+    requires one_each { length ledgers.old.schools.items ≡ length rows.now.papers.now.schools }
     requires flagged { length marks.old.flags ≡ length rows.now.papers.now.schools }
     requires start { (m : Cohort) × (reseated : ℕ → Bool) × (test : ℕ → Bool) × (inner : ℕ → Bool)
-        × IsUnderWay m rows.now reseated test inner (logs_in segments.now) renewal.old ledgers.old.items stances.old marks.old positions.now }
-    ensures one_each { length ledgers.new.items ≡ length rows.now.papers.now.schools }
+        × IsUnderWay m rows.now reseated test inner (logs_in segments.now) renewal.old ledgers.old stances.old marks.old positions.now }
+    ensures one_each { length ledgers.new.schools.items ≡ length rows.now.papers.now.schools }
     ensures theirs { OnOk result ((p : ℕ) → Contains renewal.new.positions p → Contains renewal.old.positions p ⊎ Contains positions.now p) }
     ensures swept { OnOk result ((m : Cohort) (reseated test inner : ℕ → Bool)
-        → IsUnderWay m rows.now reseated test inner (logs_in segments.now) renewal.old ledgers.old.items stances.old marks.old positions.now
-        → IsUnderWay m rows.now reseated test inner (logs_in segments.now) renewal.new ledgers.new.items stances.new marks.new []) }
+        → IsUnderWay m rows.now reseated test inner (logs_in segments.now) renewal.old ledgers.old stances.old marks.old positions.now
+        → IsUnderWay m rows.now reseated test inner (logs_in segments.now) renewal.new ledgers.new stances.new marks.new []) }
     ensures owners { OnOk result (AreTheirs (students_in segments.now) renewal.old → AreTheirs (students_in segments.now) renewal.new) }
 {
     let mut chain = Vec::new(alloc);

@@ -1,11 +1,15 @@
-//! How many proposals the turns of some students made, by the segments of the log alone.
+//! Where a turn ended, and how many proposals the turns of some students made.
 
-ghost use Rattle.std.specs.Prelude.{◌≡◌, ◌≤◌, ◌-◌, is_some, length, map};
+ghost use Rattle.std.specs.Prelude.{◌≡◌, ◌<◌, ◌≤◌, ◌+◌, ◌-◌, IfSome, is_some, length, map, if◌then◌else◌};
+ghost use Rattle.sc_papers.specs.Market.{student_at};
 ghost use Rattle.sc_papers.specs.Restriction.{IsSegmented};
 ghost use Rattle.sc_checkpoint.specs.Chains.{logs_in};
 ghost use Rattle.sc_checkpoint.specs.Positions.{LieBelow};
-ghost use Rattle.sc_ledgers.specs.Proposals.{choice_after, ends_placed, made_at, made_in};
+ghost use Rattle.sc_ledgers.specs.Ends.{place_of, AreEnds};
+ghost use Rattle.sc_ledgers.specs.Proposals.{choice_after, end_of, made_at};
+ghost use Rattle.sc_ledgers.specs.declared.ends.TheConstants.{NOWHERE};
 
+use crate::ends::Ends;
 use sc_checkpoint::Segments;
 use sc_papers::{FlatPapers, MOST_STUDENTS, Rejection, SchoolNo};
 
@@ -25,38 +29,57 @@ pub(crate) fn choice_after(papers: &FlatPapers, guess: usize, entry: &Rejection)
     papers.choice_at(position, rank + 1)
 }
 
-/// Whether a turn ended in a place, in which the student at a position entered and of which these rejections came. The last of them
-/// tells it alone: whoever an earlier one names went on to the school that the next one names.
-fn ends_placed(papers: &FlatPapers, position: usize, segment: &[Rejection]) -> bool
-    ensures { result ≡ ends_placed papers.now segment.now }
+/// The choice at which the chain of a turn ended, in which the student at a position entered and of which these rejections came: that
+/// after the last of them, or the student's first where there is none.
+fn end_of(papers: &FlatPapers, position: usize, segment: &[Rejection]) -> Option<SchoolNo>
+    requires { position < length papers.now.students }
+    ensures { result ≡ end_of papers.now (student_at papers.now position) segment.now }
 {
     match segment.last() {
-        Some(entry) => choice_after(papers, position, entry).is_some(),
-        None => true,
+        Some(entry) => choice_after(papers, position, entry),
+        None => papers.choice_at(position, 0),
     }
 }
 
-/// How many proposals that turn made: each came to a rejection, or to the place in which the turn ended.
-fn made_in(papers: &FlatPapers, position: usize, segment: &[Rejection]) -> u64
-    ensures { result ≡ made_in papers.now segment.now }
+/// The position of the school at which the chain of a turn ended, if it ended at one.
+pub(crate) fn end_place(
+    papers: &FlatPapers,
+    position: usize,
+    segment: &[Rejection],
+) -> Option<usize>
+    requires { position < length papers.now.students }
+    ensures place { result ≡ place_of papers.now (end_of papers.now (student_at papers.now position) segment.now) }
+    ensures few { IfSome result (λ place. place < NOWHERE) }
 {
-    segment.len() as u64 + u64::from(ends_placed(papers, position, segment))
+    // This call tells that the papers are within their limits, so that no position is as great as that of no school.
+    prove!(papers.students_len() <= MOST_STUDENTS);
+    let school = end_of(papers, position, segment)?;
+    papers.school_position(school)
+}
+
+/// How many proposals a turn made, of which these rejections came and which ended there: each came to a rejection, or to the place in which
+/// the turn ended.
+fn made_in(segment: &[Rejection], end: Option<usize>) -> u64
+    ensures { result ≡ length segment.now + (if is_some end then 1 else 0) }
+{
+    segment.len() as u64 + u64::from(end.is_some())
 }
 
 /// How many proposals the turns at these positions made, of all whose segments these are. Where a student has left, whoever stood behind
 /// stands one position further on: the turns counted are those at each position less the gap.
 ///
-/// The cost is that of the positions: for each of them a pass over one student's row, and a look-up by number where the last rejection
-/// names another student than the one who entered. No other rejection is looked at.
+/// The cost is that of the positions. No rejection is looked at.
 pub fn proposals_at(
     papers: &FlatPapers,
     segments: &Segments,
+    ends: &Ends,
     positions: &[usize],
     gap: usize,
 ) -> u64
     requires within { LieBelow (length segments.now) (map (λ p. p - gap) positions.now) }
     requires few { length positions.now ≤ length papers.now.students }
     requires run { IsSegmented papers.now (logs_in segments.now) }
+    requires ends { AreEnds papers.now (logs_in segments.now) ends.now }
     ensures { result ≡ made_at papers.now (logs_in segments.now) (map (λ p. p - gap) positions.now) }
 {
     // This call tells that the papers are well-formed and within their limits, so that a log is not too long to be counted.
@@ -64,7 +87,7 @@ pub fn proposals_at(
     let mut count = 0_u64;
     for position in positions {
         let at = position.saturating_sub(gap);
-        count += made_in(papers, at, segments.segment(at));
+        count += made_in(segments.segment(at), ends.get(at));
     }
     count
 }

@@ -1,6 +1,6 @@
 //! The turns from the rewind point on, each as it was or taken anew.
 
-ghost use Rattle.std.specs.Prelude.{◌≡◌, ◌<◌, ◌+◌, ℕ, Bool, not, All, IfOk, List, [], if◌then◌else◌, IfSome, OnErr, OnOk, drop, take, ◌≤◌, Some, true, false, length, slice_get};
+ghost use Rattle.std.specs.Prelude.{◌≡◌, ◌<◌, ◌+◌, ℕ, Bool, get_or, not, All, IfOk, List, [], if◌then◌else◌, IfSome, OnErr, OnOk, drop, take, ◌≤◌, Some, true, false, length, slice_get};
 ghost use Rattle.sc_papers.specs.Market.{choices_of, student_at};
 ghost use Rattle.sc_papers.specs.declared.rejection.Rejection.{Rejection};
 ghost use Rattle.sc_ledgers.specs.Cohort.{Cohort};
@@ -8,6 +8,7 @@ ghost use Rattle.sc_ledgers.specs.Course.{labels_of, AreTogether, Begins};
 ghost use Rattle.sc_ledgers.specs.Elsewhere.{cohort_of, first_of, is_aside, still_enters, AreAmong, HasPut};
 ghost use Rattle.sc_ledgers.specs.Ledger.{IsRefusedToo};
 ghost use Rattle.sc_ledgers.specs.Marks.{marked_in};
+ghost use Rattle.sc_ledgers.specs.Ends.{place_of, NamesNone};
 ghost use Rattle.sc_ledgers.specs.Proposals.{end_of};
 ghost use Rattle.sc_ledgers.specs.Sweep.{is_amended, AreInRegion, HasRun, IsDue, IsNext, IsRegion, IsRetaken, IsTaken};
 
@@ -16,7 +17,6 @@ use crate::elsewhere::{Run, Stance, Stances};
 use crate::following::{Rows, follow};
 use crate::ledger::{Answer, Ledger};
 use crate::marks::Marks;
-use crate::proposals::choice_after;
 use crate::striking::strike_turn;
 use sc_papers::{FlatPapers, Rejection, SchoolNo, Seats, StudentNo};
 use std::alloc::AllocError;
@@ -133,18 +133,6 @@ fn retake(
     Ok(())
 }
 
-/// The choice at which the chain of a turn ended, in which the student at a position entered and of which these rejections came: that
-/// after the last of them, or the student's first where there is none.
-fn end_of(papers: &FlatPapers, position: usize, segment: &[Rejection]) -> Option<SchoolNo>
-    requires { position < length papers.now.students }
-    ensures { result ≡ end_of papers.now (student_at papers.now position) segment.now }
-{
-    match segment.last() {
-        Some(entry) => choice_after(papers, position, entry),
-        None => papers.choice_at(position, 0),
-    }
-}
-
 /// Whether a rejection is of this student, by this school.
 fn is_of(entry: &Rejection, student: StudentNo, school: SchoolNo) -> bool
     ensures student { result ≡ true → entry.now.student ≡ student }
@@ -213,8 +201,18 @@ fn refusals_too(
     segment.len()
 }
 
-/// Whether a turn is as it was: its student is not amended, the schools that refused them at once do so still, its segment names no marked
-/// school after that, and it ended at none.
+/// Whether the school at which a turn ended is marked, if it ended at one.
+fn is_marked(marks: &Marks, end: Option<usize>) -> bool
+    ensures { IfSome end (λ place. result ≡ get_or marks.now.flags place false) }
+{
+    match end {
+        Some(place) => marks.has(place),
+        None => false,
+    }
+}
+
+/// Whether a turn is as it was, which ended there: its student is not amended, the schools that refused them at once do so still, its
+/// segment names no marked school after that, and it ended at none.
 fn is_still(
     rows: &Rows<'_>,
     ledgers: &[Ledger],
@@ -222,6 +220,7 @@ fn is_still(
     turn: u32,
     position: usize,
     segment: &[Rejection],
+    end: Option<usize>,
 ) -> bool
     requires within { position < length rows.now.papers.now.students }
     requires one_each { length ledgers.now ≡ length rows.now.papers.now.schools }
@@ -229,8 +228,7 @@ fn is_still(
     ensures made_too { result ≡ true → (p : ℕ) × All (IsRefusedToo rows.now.papers.now (marked_in rows.now.papers.now marks.now.flags)
         (labels_of rows.now.papers.now ledgers.now) turn (student_at rows.now.papers.now position)) (take p segment.now)
         × All (λ e. marked_in rows.now.papers.now marks.now.flags e.school ≡ false) (drop p segment.now) }
-    ensures unended { result ≡ true → IfSome (end_of rows.now.papers.now (student_at rows.now.papers.now position) segment.now)
-        (λ s. marked_in rows.now.papers.now marks.now.flags s ≡ false) }
+    ensures unended { result ≡ true → IfSome end (λ place. get_or marks.now.flags place false ≡ false) }
 {
     let Some(student) = rows.papers.student_at(position) else {
         unreachable!()
@@ -242,12 +240,11 @@ fn is_still(
     if marks.have_any(rows.papers, &segment[refused..]) {
         return false;
     }
-    let end = end_of(rows.papers, position, segment);
-    !marks.have(rows.papers, end)
+    !is_marked(marks, end)
 }
 
-/// Takes one turn, in which the student at a position enters and of which these rejections came in the old run: it stays as it was, or
-/// is taken anew, and the marks follow. The answer is whether it was taken anew; its rejections are then those of the chain. After a
+/// Takes one turn, in which the student at a position enters and of which these rejections came in the old run, which ended there: it stays
+/// as it was, or is taken anew, and the marks follow. The answer is whether it was taken anew; its rejections are then those of the chain. After a
 /// refused growth all is to be given up.
 pub(crate) fn take_turn(
     rows: &Rows<'_>,
@@ -257,6 +254,7 @@ pub(crate) fn take_turn(
     turn: u32,
     position: usize,
     old: &[Rejection],
+    end: Option<usize>,
     chain: &mut Vec<Rejection>,
 ) -> Result<bool, AllocError>
     requires first { position ≡ turn }
@@ -266,6 +264,8 @@ pub(crate) fn take_turn(
     requires next { (m : Cohort) × (olds : List (List Rejection)) × (news : List (List Rejection)) × (reseated : ℕ → Bool)
         × IsNext m (cohort_of rows.now) rows.now.amended rows.now.before.now reseated olds news turn old.now
         (labels_of rows.now.papers.now ledgers.old.items) stances.old marks.old }
+    requires ended { NamesNone rows.now.amended (student_at rows.now.papers.now position) old.now
+        → end ≡ place_of rows.now.papers.now (end_of rows.now.papers.now (student_at rows.now.papers.now position) old.now) }
     ensures one_each { length ledgers.new.items ≡ length rows.now.papers.now.schools }
     ensures flagged { OnOk result (length marks.new.flags ≡ length rows.now.papers.now.schools) }
     ensures inside { OnOk result ((m : Cohort) (olds news : List (List Rejection)) (reseated test inner : ℕ → Bool)
@@ -276,13 +276,14 @@ pub(crate) fn take_turn(
         → AreInRegion rows.now.papers.now test inner stances.old marks.old
         → AreInRegion rows.now.papers.now test inner stances.new marks.new) }
     ensures empty { IfOk result (λ anew. anew ≡ false → chain.new.items ≡ []) }
+    ensures beside { IfOk result (λ anew. anew ≡ false → NamesNone rows.now.amended (student_at rows.now.papers.now position) old.now) }
     ensures taken { IfOk result (λ anew. (m : Cohort) (olds news : List (List Rejection)) (reseated : ℕ → Bool)
         → IsNext m (cohort_of rows.now) rows.now.amended rows.now.before.now reseated olds news turn old.now
         (labels_of rows.now.papers.now ledgers.old.items) stances.old marks.old
         → IsTaken m (cohort_of rows.now) rows.now.amended reseated olds news turn (if anew then chain.new.items else old.now)
         (labels_of rows.now.papers.now ledgers.new.items) stances.new marks.new) }
 {
-    if is_still(rows, ledgers, marks, turn, position, old) {
+    if is_still(rows, ledgers, marks, turn, position, old, end) {
         return Ok(false);
     }
     retake(rows, ledgers, stances, turn, position, old, chain)?;

@@ -10,7 +10,7 @@ use Rattle.sc_papers.specs.Log.{matching_of, next_choice}
 use Rattle.sc_papers.specs.Market.{Market, student_at, students_of}
 use Rattle.sc_papers.specs.Restriction as whole
 use Rattle.sc_papers.specs.Restriction.{joined, AreApart, IsSegmented}
-use Rattle.sc_papers.specs.Verdict.{after, without_student}
+use Rattle.sc_papers.specs.Verdict.{without_student}
 use Rattle.sc_papers.specs.WellFormed.{WellFormed}
 use Rattle.sc_papers.specs.declared.amendment.Amendment.TheVariants.{Withdraw}
 use Rattle.sc_papers.specs.declared.rejection.Rejection.{Rejection}
@@ -21,13 +21,16 @@ use Rattle.sc_checkpoint.specs.Positions.{LieBelow}
 use Rattle.sc_ledgers.specs.Cohort.{cohort, cut}
 use Rattle.sc_ledgers.specs.Course.{labels_of}
 use Rattle.sc_ledgers.specs.Elsewhere.{still_enters}
+use Rattle.sc_ledgers.specs.Ends.{AreEnds}
 use Rattle.sc_ledgers.specs.Left.{AreWithout}
 use Rattle.sc_ledgers.specs.Opening.{everybody}
 use Rattle.sc_ledgers.specs.Proposals.{made_at}
 use Rattle.sc_ledgers.specs.Renewed.{AreTurnsOf}
 use Rattle.sc_ledgers.specs.Whole.{AreWhole}
 use Rattle.sc_ledgers.specs.declared.ledger.Label.{Label}
+use Rattle.sc_ledgers.specs.declared.opened.Ledgers.{Ledgers}
 use Rattle.sc_ledgers.proofs.Cohorts.{cut-everybody, run-segments}
+use Rattle.sc_ledgers.proofs.TurnEnds.{ends-left, map-remove}
 use Rattle.sc_ledgers.proofs.Leavers.{segment-empty, whole-withdrawn}
 use Rattle.sc_ledgers.proofs.TurnsMade.{made-inside}
 use Rattle.sc_ledgers.proofs.Without.{cut-behind, joined-behind, students-without}
@@ -41,13 +44,7 @@ use Rattle.sc_repair.proofs.Regional.{counts-region, keeps-others, region-apart_
 use Rattle.sc_repair.proofs.Resumption.{certified-of, length-students}
 use Rattle.sc_repair.proofs.StartingWithout.{leaver-count, leaver-here, leaver-low, leaver-tells, marks-test, rows_without, MayLeave}
 
--- a list without one of its items: what is made of each of them, and what stands before
-map-remove : {X Y : Type 0} (f : X → Y) (xs : List X) (p : ℕ) → map f (remove xs p) ≡ remove (map f xs) p
-map-remove f [] zero = refl
-map-remove f [] (suc p) = refl
-map-remove f (x ∷ xs) zero = refl
-map-remove f (x ∷ xs) (suc p) = ap (λ ys. f x ∷ ys) (map-remove f xs p)
-
+-- what stands before an item of a list stays once it is gone
 take-remove : {X : Type 0} (xs : List X) (p : ℕ) → take p (remove xs p) ≡ take p xs
 take-remove [] zero = refl
 take-remove [] (suc p) = refl
@@ -84,23 +81,24 @@ turns-few n test from end (p ∷ positions) (first, below, none, passes, later) 
 
 -- the turns of the region were taken anew, as if the student did not enter, and then the student has left: the papers, the chains and the
 -- ledgers are without them
-pub record HasLeft (m n : Market) (i point : ℕ) (test : ℕ → Bool) (papers : Bor Market) (before : Bor (List ℕ)) (chains new fewer : List Chain) (places after final : List (ℕ × ℕ)) (anew left : List (List Label)) : Type 0 where
+pub record HasLeft (m n : Market) (i point : ℕ) (test : ℕ → Bool) (papers : Bor Market) (before : Bor (List ℕ)) (chains new fewer : List Chain) (places after final : List (ℕ × ℕ)) (anew left : Ledgers) : Type 0 where
   pub same : papers.now ≡ m
-  pub settled : IsSettledAnew (rows_without papers before i) test point chains new places after (labels_of papers.now anew)
+  pub settled : IsSettledAnew (rows_without papers before i) test point chains new places after (labels_of papers.now anew.schools.items) anew.ends
   pub gone : n ≡ without_student m i
   pub removed : fewer ≡ remove new point
   pub given : final ≡ after
-  pub one_each : length left ≡ length papers.now.schools
-  pub without : AreWithout point (labels_of m anew) (labels_of m left)
+  pub one_each : length left.schools.items ≡ length papers.now.schools
+  pub without : AreWithout point (labels_of m anew.schools.items) (labels_of m left.schools.items)
+  pub ends : left.ends ≡ remove anew.ends point
 
-module _ {m n : Market} {i point : ℕ} {marks : List Bool} {papers : Bor Market} {before : Bor (List ℕ)} {chains new fewer : List Chain} {places after final : List (ℕ × ℕ)} {ledgers struck anew left : List (List Label)}
+module _ {m n : Market} {i point : ℕ} {marks : List Bool} {papers : Bor Market} {before : Bor (List ℕ)} {chains new fewer : List Chain} {places after final : List (ℕ × ℕ)} {struck : List (List Label)} {ledgers anew left : Ledgers}
     (may : MayLeave m i point marks chains ledgers struck) (has : HasLeft m n i point (is_among (marked_in marks chains)) papers before chains new fewer places after final anew left) where
   -- everybody else enters
   abbrev enters : ℕ → Bool
   enters = still_enters (rows_without papers before i)
 
-  whole-before : AreWhole (cohort m enters) (logs_in new) (labels_of m anew)
-  whole-before = subst (λ p. AreWhole (cohort p enters) (logs_in new) (labels_of p anew)) has.same has.settled.whole
+  whole-before : AreWhole (cohort m enters) (logs_in new) (labels_of m anew.schools.items)
+  whole-before = subst (λ p. AreWhole (cohort p enters) (logs_in new) (labels_of p anew.schools.items)) has.same has.settled.whole
 
   well : WellFormed n
   well = subst WellFormed (sym has.gone) (WellFormed-without_student m i may.well_formed)
@@ -115,10 +113,10 @@ module _ {m n : Market} {i point : ℕ} {marks : List Bool} {papers : Bor Market
   as-many : length (students_of n) + 1 ≡ length (students_of m)
   as-many = omega (arith, ap (λ (xs : List ℕ). length xs) students, length-remove (students_of m) point (leaver-low may))
 
-  whole-after : AreWhole (cohort n everybody) (remove (logs_in new) point) (labels_of n left)
+  whole-after : AreWhole (cohort n everybody) (remove (logs_in new) point) (labels_of n left.schools.items)
   whole-after =
-      whole-withdrawn (cohort m enters) n point i (logs_in new) (labels_of m anew) (labels_of n left) may.well_formed (leaver-here may) has.gone (λ j. refl) whole-before
-      (subst (λ p. AreWithout point (labels_of m anew) (labels_of p left)) (sym has.gone) has.without)
+      whole-withdrawn (cohort m enters) n point i (logs_in new) (labels_of m anew.schools.items) (labels_of n left.schools.items) may.well_formed (leaver-here may) has.gone (λ j. refl) whole-before
+      (subst (λ p. AreWithout point (labels_of m anew.schools.items) (labels_of p left.schools.items)) (sym has.gone) has.without)
 
   pub left-theirs : students_in fewer ≡ students_of n
   left-theirs =
@@ -130,7 +128,10 @@ module _ {m n : Market} {i point : ℕ} {marks : List Bool} {papers : Bor Market
   pub left-ledgers : AreLedgersOf n (logs_in fewer) left
   left-ledgers = record {
     one_each = has.one_each ∙ ap (λ (p : Market). length p.schools) has.same ∙ ap (λ (p : Market). length p.schools) (sym has.gone);
-    whole = subst (λ segments. AreWhole (cohort n everybody) segments (labels_of n left)) (sym logs) whole-after;
+    whole = subst (λ segments. AreWhole (cohort n everybody) segments (labels_of n left.schools.items)) (sym logs) whole-after;
+    ended = subst (λ segments. AreEnds n segments left.ends) (sym logs)
+        (subst (AreEnds n (remove (logs_in new) point)) (sym has.ends)
+        (ends-left (cohort m enters) n point i (logs_in new) anew.ends may.well_formed (leaver-here may) has.gone (λ j. refl) whole-before.run (subst (λ p. AreEnds p (logs_in new) anew.ends) has.same has.settled.ended)));
   }
 
   -- nothing came of the student's turn, so that the log is the same
@@ -141,7 +142,7 @@ module _ {m n : Market} {i point : ℕ} {marks : List Bool} {papers : Bor Market
   same-log =
       let last = length (students_of n) in
       ap joined (sym (take_all (suc last) (logs_in new) (omega (arith, count, as-many))))
-      ∙ sym (joined-behind (logs_in new) point last (segment-empty (cohort m enters) point i (logs_in new) (labels_of m anew) may.well_formed (leaver-here may) (λ j. refl) whole-before) (omega (arith, leaver-low may, as-many)))
+      ∙ sym (joined-behind (logs_in new) point last (segment-empty (cohort m enters) point i (logs_in new) (labels_of m anew.schools.items) may.well_formed (leaver-here may) (λ j. refl) whole-before) (omega (arith, leaver-low may, as-many)))
       ∙ ap joined (take_all last (remove (logs_in new) point) (omega (arith, length-remove (logs_in new) point (omega (arith, leaver-low may, count)), count, as-many)))
       ∙ ap joined (sym logs)
 

@@ -1,5 +1,5 @@
 -- A newcomer, who enters after all others: where everybody stands then, and what the settling comes to.
-use Rattle.std.proofs.Common.{◌≡◌, inl, inr, refl, ap, sym, subst, ◌∙◌, ℕ, ◌+◌, ◌==◌, ◌||◌, Bool, true, false, cond, List, [], ◌∷◌, ◌++◌, length, slice_get, take, Some, None, Ok, Err, arith}
+use Rattle.std.proofs.Common.{Option, ◌≡◌, inl, inr, refl, ap, sym, subst, ◌∙◌, ℕ, ◌+◌, ◌==◌, ◌||◌, Bool, true, false, cond, List, [], ◌∷◌, ◌++◌, length, slice_get, take, Some, None, Ok, Err, arith}
 use Rattle.std.specs.declared.alloc.AllocError.{AllocError}
 use Rattle.std.proofs.lemmas.Grind.{common_steps}
 use Rattle.std.proofs.lemmas.Bool.{cases_Bool, eqb-true, false_from_ne_true, false≢true}
@@ -35,9 +35,11 @@ use Rattle.sc_ledgers.specs.Renewed.{AreTurnsOf}
 use Rattle.sc_ledgers.specs.Whole.{AreWhole}
 use Rattle.sc_ledgers.specs.declared.elsewhere.Stance.{Stance}
 use Rattle.sc_ledgers.specs.declared.ledger.Label.{Label}
+use Rattle.sc_ledgers.specs.declared.opened.Ledgers.{Ledgers}
 use Rattle.sc_ledgers.proofs.Cohorts.{first-more, run-segments}
 use Rattle.sc_ledgers.proofs.Siding.{aside-there, beside-absent}
 use Rattle.sc_ledgers.proofs.TurnsMade.{made-inside}
+use Rattle.sc_ledgers.specs.Ends.{AreEnds}
 use Rattle.sc_repair.specs.Anew.{AreLedgersOf, HavePlaces}
 use Rattle.sc_repair.specs.Changed.{newcomer, standing_of}
 use Rattle.sc_repair.specs.Locality.{is_among, placed_of}
@@ -60,13 +62,16 @@ schools-cut : (m : Market) (k : ℕ) → (cut m k).schools ≡ m.schools
 unfolding cut
 schools-cut m k = refl
 
-pub ledgers-one_each : (m : Market) (k : ℕ) (segments : List (List Rejection)) (ledgers : List (List Label)) → AreLedgersOf (cut m k) segments ledgers → length ledgers ≡ length m.schools
+pub ledgers-one_each : (m : Market) (k : ℕ) (segments : List (List Rejection)) (ledgers : Ledgers) → AreLedgersOf (cut m k) segments ledgers → length ledgers.schools.items ≡ length m.schools
 ledgers-one_each m k segments ledgers kept = kept.one_each ∙ ap (λ ss. length ss) (schools-cut m k)
 
-pub ledgers-whole : (m : Market) (k position : ℕ) (segments : List (List Rejection)) (ledgers : List (List Label)) → position ≡ k → AreLedgersOf (cut m k) segments ledgers → AreWhole (cohort (cut m position) everybody) segments (labels_of m ledgers)
+pub ledgers-whole : (m : Market) (k position : ℕ) (segments : List (List Rejection)) (ledgers : Ledgers) → position ≡ k → AreLedgersOf (cut m k) segments ledgers → AreWhole (cohort (cut m position) everybody) segments (labels_of m ledgers.schools.items)
 ledgers-whole m k position segments ledgers at kept =
-    subst (λ t. AreWhole (cohort (cut m t) everybody) segments (labels_of m ledgers)) (sym at)
-    (subst (AreWhole (cohort (cut m k) everybody) segments) (labels-cut m k ledgers) kept.whole)
+    subst (λ t. AreWhole (cohort (cut m t) everybody) segments (labels_of m ledgers.schools.items)) (sym at)
+    (subst (AreWhole (cohort (cut m k) everybody) segments) (labels-cut m k ledgers.schools.items) kept.whole)
+
+pub ledgers-ended : (m : Market) (k position : ℕ) (segments : List (List Rejection)) (ledgers : Ledgers) → position ≡ k → AreLedgersOf (cut m k) segments ledgers → AreEnds (cut m position) segments ledgers.ends
+ledgers-ended m k position segments ledgers at kept = subst (λ t. AreEnds (cut m t) segments ledgers.ends) (sym at) kept.ended
 
 -- where a student stands of whom some have entered
 next-entered : (m : Market) (entered : ℕ → Bool) (log : List Rejection) (j : ℕ) → next_choice (restricted m entered) log j ≡ cond (entered j) (next_choice m log j) None
@@ -82,10 +87,10 @@ next-others m k i log j well last here other =
     ∙ first (k + 1) ∙ ap (λ b. cond b (next_choice m log j) None) same ∙ sym (first k)
 
 -- once the newcomer's chain has run, and whoever stands elsewhere has been given their place, everybody has theirs
-pub placed-entered : (m : Market) (k i : ℕ) (segments : List (List Rejection)) (chain : List Rejection) (labels : ℕ → List Label) (list : List Stance) (before given moved : List (ℕ × ℕ))
-    → WellFormed m → length m.students ≡ k + 1 → slice_get (students_of m) k ≡ Some i → HasEntered m i segments chain labels list → AreApart list → HavePlaces (cut m k) segments before
+pub placed-entered : (m : Market) (k i : ℕ) (segments : List (List Rejection)) (chain : List Rejection) (labels : ℕ → List Label) (ends : List (Option ℕ)) (list : List Stance) (before given moved : List (ℕ × ℕ))
+    → WellFormed m → length m.students ≡ k + 1 → slice_get (students_of m) k ≡ Some i → HasEntered m i segments chain labels ends list → AreApart list → HavePlaces (cut m k) segments before
     → ((j : ℕ) → assigned given j ≡ with_given list (assigned before) j) → ((j : ℕ) → assigned moved j ≡ with_replaced list (assigned given) j) → HavePlaces m (segments ++ chain ∷ []) moved
-placed-entered m k i segments chain labels list before given moved well last here entered apart stood were are j =
+placed-entered m k i segments chain labels ends list before given moved well last here entered apart stood were are j =
     let (stands, stays) = replaced-places list (assigned before) (assigned given) (assigned moved) apart were are in
     let now : assigned moved j ≡ next_choice m (joined segments ++ chain) j = elim (cases_Bool (is_aside list j)) [
       | inl is ↦
@@ -132,7 +137,7 @@ pub record Admits (m n : Market) (a : Amendment) (i : ℕ) (chains : List Chain)
   pub own : students_in chains ≡ students_of m
 
 -- the newcomer has entered by a chain, which is put at the end, and by which the ledgers and the places are now
-pub record HasCome (n : Market) (i : ℕ) (chains new : List Chain) (given : List (ℕ × ℕ)) (ledgers : List (List Label)) : Type 0 where
+pub record HasCome (n : Market) (i : ℕ) (chains new : List Chain) (given : List (ℕ × ℕ)) (ledgers : Ledgers) : Type 0 where
   pub chain : List Rejection
   pub pushed : new ≡ with_chain chains i chain
   pub kept : AreLedgersOf n (logs_in new) ledgers
@@ -165,11 +170,11 @@ module _ {m n : Market} {a : Amendment} {i : ℕ} {chains : List Chain} {before 
   admitted-last = omega (arith, many, length-students m, length-students n, ap (λ (xs : List ℕ). length xs) more, length-append (students_of m) (i ∷ []))
 
   -- the ledgers are still those of all others
-  pub admitted-ledgers : (ledgers : List (List Label)) → AreLedgersOf m (logs_in chains) ledgers → AreLedgersOf (cut n (length chains)) (logs_in chains) ledgers
+  pub admitted-ledgers : (ledgers : Ledgers) → AreLedgersOf m (logs_in chains) ledgers → AreLedgersOf (cut n (length chains)) (logs_in chains) ledgers
   admitted-ledgers ledgers = subst (λ p. AreLedgersOf p (logs_in chains) ledgers) part
 
   -- once the newcomer has entered
-  module _ {new : List Chain} {given : List (ℕ × ℕ)} {ledgers : List (List Label)} (come : HasCome n i chains new given ledgers) where
+  module _ {new : List Chain} {given : List (ℕ × ℕ)} {ledgers : Ledgers} (come : HasCome n i chains new given ledgers) where
     logs : logs_in new ≡ logs_in chains ++ come.chain ∷ []
     logs = ap logs_in come.pushed ∙ logs-push chains i come.chain
 

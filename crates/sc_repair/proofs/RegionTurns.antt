@@ -1,6 +1,6 @@
 -- A region of students and schools before and after an amendment: who lists its schools, the turns of its students by their marks, and the
 -- labels that are left once those of who is amended are struck.
-use Rattle.std.proofs.Common.{◌≡◌, inl, inr, refl, ap, sym, subst, ◌∙◌, ℕ, zero, suc, ◌+◌, ◌-◌, ◌<◌, ◌==◌, ◌&&◌, ◌||◌, nat_eq, Bool, true, false, List, [], ◌∷◌, length, get_or, Option, Some, None, Contains, position, arith}
+use Rattle.std.proofs.Common.{◌≡◌, inl, inr, refl, ap, sym, subst, ◌∙◌, ℕ, zero, suc, ◌+◌, ◌<◌, ◌==◌, ◌&&◌, ◌||◌, nat_eq, Bool, true, false, List, [], ◌∷◌, length, get_or, Option, Some, None, Contains, position, arith}
 use Rattle.std.specs.List.{list_any}
 use Rattle.std.specs.Option.{option_map_or}
 use Rattle.std.proofs.lemmas.Bool.{and_from, and_parts, cases_Bool, cases_eq, cond-false, cond-true, eq-eqb, eqb-true, false≢true, false_from_ne_true, or_cases, or_left, or_right}
@@ -24,6 +24,7 @@ use Rattle.sc_ledgers.specs.Opening.{everybody}
 use Rattle.sc_ledgers.specs.Renewed.{AreTurnsOf, NoneBetween}
 use Rattle.sc_ledgers.specs.Sweep.{is_amended, IsRegion}
 use Rattle.sc_ledgers.specs.declared.ledger.Label.{Label}
+use Rattle.sc_ledgers.specs.declared.opened.Ledgers.{Ledgers}
 use Rattle.sc_ledgers.proofs.Beginnings.{all-gone}
 use Rattle.sc_stamps.specs.Record.{record_of}
 use Rattle.sc_repair.specs.Anew.{school_in, student_in, AreLedgersOf, IsStruck}
@@ -190,9 +191,9 @@ pub record AreLeft (amended : Option ℕ) (labels left : ℕ → List Label) : T
   pub only : (s : ℕ) (label : Label) → Contains (left s) label → Contains (labels s) label
   pub gone : (s : ℕ) (label : Label) → Contains (left s) label → is_amended amended label.key.student ≡ false
 
-pub struck-left : (m n : Market) (segments : List (List Rejection)) (amended : Option ℕ) (ledgers left : List (List Label)) → WellFormed m → schools_of n ≡ schools_of m → AreLedgersOf m segments ledgers → IsStruck m amended ledgers left → AreLeft amended (labels_of m ledgers) (labels_of n left)
+pub struck-left : (m n : Market) (segments : List (List Rejection)) (amended : Option ℕ) (ledgers : Ledgers) (left : List (List Label)) → WellFormed m → schools_of n ≡ schools_of m → AreLedgersOf m segments ledgers → IsStruck m amended ledgers.schools.items left → AreLeft amended (labels_of m ledgers.schools.items) (labels_of n left)
 struck-left m n segments None ledgers left well schools are struck =
-    let same : labels_of n left ≡ labels_of m ledgers = λ t s. labels_at (struck t) (position (nat_eq s) (schools t)) in
+    let same : labels_of n left ≡ labels_of m ledgers.schools.items = λ t s. labels_at (struck t) (position (nat_eq s) (schools t)) in
     record {
       kept = λ s label here other. subst (λ (of : ℕ → List Label). Contains (of s) label) (sym same) here;
       only = λ s label here. subst (λ (of : ℕ → List Label). Contains (of s) label) same here;
@@ -205,6 +206,6 @@ struck-left m n segments (Some i) ledgers left well schools are struck =
           (struck.kept s label here (λ own. false≢true (sym other ∙ eq-eqb i label.key.student (sym own))));
       only = λ s label here. struck.only s label (subst (λ (of : ℕ → List Label). Contains (of s) label) same here);
       gone = λ s label here. false_from_ne_true (i == label.key.student) (λ own.
-          all-gone (cohort m everybody) (length (students_of m)) segments (labels_of m ledgers) (labels_of m left) i well are.whole.run are.whole.before are.whole.turns are.whole.own struck s label
+          all-gone (cohort m everybody) (length (students_of m)) segments (labels_of m ledgers.schools.items) (labels_of m left) i well are.whole.run are.whole.before are.whole.turns are.whole.own struck s label
           (subst (λ (of : ℕ → List Label). Contains (of s) label) same here) (sym (eqb-true i label.key.student own)));
     }

@@ -2,7 +2,7 @@
 use Rattle.std.proofs.Common.{◌≡◌, refl, ap, sym, subst, ◌∙◌, ℕ, ◌+◌, ◌-◌, ◌≤◌, ◌<◌, ◌&&◌, not, Bool, true, false, zero, suc, cond, Contains, List, [], ◌∷◌, length, map, Option, Some, drop, get_or, arith}
 use Rattle.std.proofs.lemmas.List.{get_or-map, get_or_default, length-map}
 use Rattle.sc_papers.specs.Market.{Market, students_of}
-use Rattle.sc_papers.specs.Restriction.{cut, joined, AreApart, IsSegmented}
+use Rattle.sc_papers.specs.Restriction.{joined, AreApart, IsSegmented}
 use Rattle.sc_papers.specs.WellFormed.{WellFormed}
 use Rattle.sc_papers.proofs.Cutting.{cut-all}
 use Rattle.sc_checkpoint.specs.Chains.{logs_in, students_in, Chain}
@@ -35,7 +35,7 @@ all-turns : (n : Market) (k : ℕ) → WellFormed n → length (students_of n) �
 all-turns n k well all = cut-everybody (cohort n everybody) k well (λ j. refl) ∙ cut-all n k all
 
 -- a region was settled anew, where nobody leaves
-module _ {rows : Rows} {test : ℕ → Bool} {point : ℕ} {old new : List Chain} {places after : List (ℕ × ℕ)} {labels : ℕ → List Label} (anew : IsSettledAnew rows test point old new places after labels) (stays : rows.leaves ≡ false) where
+module _ {rows : Rows} {test : ℕ → Bool} {point : ℕ} {old new : List Chain} {places after : List (ℕ × ℕ)} {labels : ℕ → List Label} {ends : List (Option ℕ)} (anew : IsSettledAnew rows test point old new places after labels ends) (stays : rows.leaves ≡ false) where
   -- the labels are those of a run of everybody, so that its segments are the log of all
   pub settled-whole : AreWhole (cohort rows.papers.now everybody) (logs_in new) labels
   settled-whole = subst (λ c. AreWhole c (logs_in new) labels) (all-enter rows stays) anew.whole
@@ -53,9 +53,9 @@ module _ {rows : Rows} {test : ℕ → Bool} {point : ℕ} {old new : List Chain
       subst (λ p. HavePlaces p (logs_in new) after) (ap (λ c. cohorts.cut c (length old)) (all-enter rows stays) ∙ all-turns rows.papers.now (length old) well all) anew.placed
 
   -- and the standing is that of the new papers, in which the turns from the point on made the proposals
-  pub settled-standing : {m : Market} {inner : ℕ → Bool} {before started : ℕ → List Label} {positions : List ℕ} {place : Option ℕ} → AreApart rows.papers.now test → students_in old ≡ students_of m
-      → StartsAnew m rows test inner (logs_in old) point before started positions place → IsResettled rows.papers.now test point places after old new (made_at rows.papers.now (logs_in new) positions)
-  settled-standing {positions} apart theirs starts =
+  pub settled-standing : {m : Market} {inner : ℕ → Bool} {before started : ℕ → List Label} {kept : List (Option ℕ)} {positions : List ℕ} {place : Option ℕ} → AreApart rows.papers.now test → students_in old ≡ students_of m
+      → StartsAnew m rows test inner (logs_in old) point before started kept positions place → IsResettled rows.papers.now test point places after old new (made_at rows.papers.now (logs_in new) positions)
+  settled-standing {positions = positions} apart theirs starts =
       let n = rows.papers.now in
       let run = settled-run starts.well_new in
       let own : students_in old ≡ students_of n = theirs ∙ sym starts.students in
@@ -104,8 +104,8 @@ from-below marks from positions is k low =
     below-marked marks p its
 
 -- the standing after it, with the proposals that were counted
-pub settled-counted : {m : Market} {rows : Rows} {test inner : ℕ → Bool} {point : ℕ} {old new : List Chain} {places after : List (ℕ × ℕ)} {labels before started : ℕ → List Label} {positions : List ℕ} {place : Option ℕ}
-    → StartsAnew m rows test inner (logs_in old) point before started positions place → IsSettledAnew rows test point old new places after labels → rows.leaves ≡ false → students_in old ≡ students_of m
+pub settled-counted : {m : Market} {rows : Rows} {test inner : ℕ → Bool} {point : ℕ} {old new : List Chain} {places after : List (ℕ × ℕ)} {labels before started : ℕ → List Label} {ends kept : List (Option ℕ)} {positions : List ℕ} {place : Option ℕ}
+    → StartsAnew m rows test inner (logs_in old) point before started kept positions place → IsSettledAnew rows test point old new places after labels ends → rows.leaves ≡ false → students_in old ≡ students_of m
     → (n p : Market) (gap made : ℕ) → rows.papers.now ≡ n → AreApart n test → p ≡ n → gap ≡ 0 → made ≡ made_at p (logs_in new) (map (λ at. at - gap) positions) → IsResettled n test point places after old new made
 settled-counted {test = test} {point = point} {old = old} {new = new} {places = places} {after = after} {positions = positions} starts anew stays theirs n p gap made papers apart same none counted =
     let is : made_at n (logs_in new) positions ≡ made = sym (counted ∙ (λ t. made_at (same t) (logs_in new) (less-none gap positions none t))) in

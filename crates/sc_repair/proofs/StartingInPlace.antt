@@ -25,6 +25,7 @@ use Rattle.sc_ledgers.specs.Renewed.{AreTurnsOf}
 use Rattle.sc_ledgers.specs.Sweep.{is_amended, IsRegion}
 use Rattle.sc_ledgers.specs.declared.following.Rows.{Rows}
 use Rattle.sc_ledgers.specs.declared.ledger.Label.{Label}
+use Rattle.sc_ledgers.specs.declared.opened.Ledgers.{Ledgers}
 use Rattle.sc_stamps.specs.Record.{record_of}
 use Rattle.sc_repair.specs.Anew.{choices_before, place_in, school_in, student_in, AreLedgersOf, IsStruck}
 use Rattle.sc_repair.specs.Changed.{newcomer, ChangesInPlace}
@@ -131,8 +132,8 @@ module _ {m : Market} {a : Amendment} {chains : List Chain} {marks : List Bool} 
   }
 
   -- with these its turns can be taken anew
-  started : (back : Amendment) (rows : Rows) (ledgers left : List (List Label)) → TakesBack m (after m a) back → AreLedgersOf m (logs_in chains) ledgers → IsStruck m (student_in (record_of a)) ledgers left
-      → StartsAnew m (made back rows) (region_of marks chains) (schools_in m a marks chains) (logs_in chains) (rewind_point m a) (labels_of m ledgers) (labels_of (after m a) left) (marked_from marks (rewind_point m a)) (place_in (after m a) (record_of a))
+  started : (back : Amendment) (rows : Rows) (ledgers : Ledgers) (left : List (List Label)) → TakesBack m (after m a) back → AreLedgersOf m (logs_in chains) ledgers → IsStruck m (student_in (record_of a)) ledgers.schools.items left
+      → StartsAnew m (made back rows) (region_of marks chains) (schools_in m a marks chains) (logs_in chains) (rewind_point m a) (labels_of m ledgers.schools.items) (labels_of (after m a) left) ledgers.ends (marked_from marks (rewind_point m a)) (place_in (after m a) (record_of a))
   started back rows ledgers left takes are struck =
       let left_of = struck-left m (after m a) (logs_in chains) (student_in (record_of a)) ledgers left given.well (schools-kept m a) are struck in
       record {
@@ -145,6 +146,7 @@ module _ {m : Market} {a : Amendment} {chains : List Chain} {marks : List Bool} 
         seats = λ s beside. seats-beside m a s given.changes.allowed given.changes.no_entry given.changes.no_withdrawal beside;
         keys = λ j s other. key-kept m (after m a) j s (alike-after m a).seed ((alike-after m a).zones s) (kept j other);
         whole = are.whole;
+        ended = are.ended;
         kept = left_of.kept;
         only = left_of.only;
         gone = left_of.gone;
@@ -162,14 +164,14 @@ module _ {m : Market} {a : Amendment} {chains : List Chain} {marks : List Bool} 
       known-some (Some i) known = known i refl
 
   -- and with whatever is the same as these
-  pub starts-in-place : (n : Market) (back : Amendment) (rows : Rows) (ledgers left : List (List Label)) (point : ℕ) (positions : List ℕ) (place : Option ℕ) → n ≡ after m a → TakesBack m n back
-      → AreLedgersOf m (logs_in chains) ledgers → IsStruck m (student_in (record_of a)) ledgers left
+  pub starts-in-place : (n : Market) (back : Amendment) (rows : Rows) (ledgers : Ledgers) (left : List (List Label)) (point : ℕ) (positions : List ℕ) (place : Option ℕ) → n ≡ after m a → TakesBack m n back
+      → AreLedgersOf m (logs_in chains) ledgers → IsStruck m (student_in (record_of a)) ledgers.schools.items left
       → rows.papers.now ≡ n → rows.amended ≡ student_in (record_of a) → rows.before.now ≡ choices_before n back (student_in (record_of a))
       → point ≡ rewind_point m a → positions ≡ marked_from marks point → place ≡ place_in n (record_of a)
-      → StartsAnew m rows (region_of marks chains) (schools_in m a marks chains) (logs_in chains) point (labels_of m ledgers) (labels_of n left) positions place
+      → StartsAnew m rows (region_of marks chains) (schools_in m a marks chains) (logs_in chains) point (labels_of m ledgers.schools.items) (labels_of n left) ledgers.ends positions place
   starts-in-place n back rows ledgers left point positions place accepted takes are struck papers amends had at from place_is =
       let Starts : Rows → ℕ → List ℕ → Option ℕ → Market → Type 0 = λ rows point positions place n.
-      StartsAnew m rows (region_of marks chains) (schools_in m a marks chains) (logs_in chains) point (labels_of m ledgers) (labels_of n left) positions place in
+      StartsAnew m rows (region_of marks chains) (schools_in m a marks chains) (logs_in chains) point (labels_of m ledgers.schools.items) (labels_of n left) ledgers.ends positions place in
       let same : rows ≡ made back rows = λ t. record rows {
         papers = record rows.papers { now = (papers ∙ accepted) t };
         amended = amends t;

@@ -28,6 +28,7 @@ use Rattle.sc_ledgers.specs.Renewed.{AreTurnsOf}
 use Rattle.sc_ledgers.specs.Sweep.{IsRegion}
 use Rattle.sc_ledgers.specs.declared.following.Rows.{Rows}
 use Rattle.sc_ledgers.specs.declared.ledger.Label.{Label}
+use Rattle.sc_ledgers.specs.declared.opened.Ledgers.{Ledgers}
 use Rattle.sc_repair.specs.Anew.{AreLedgersOf, IsStruck}
 use Rattle.sc_repair.specs.Locality.{is_among, marked_from, marked_in, TellsRegion}
 use Rattle.sc_repair.specs.Rewinding.{position_of}
@@ -41,14 +42,14 @@ rows_without papers before i = record { papers = papers; amended = Some i; befor
 
 -- a student may leave papers of which the chains are a settled log: the region is marked, and the ledgers are those of the log, of which the
 -- student's labels have been struck
-pub record MayLeave (m : Market) (i point : ℕ) (marks : List Bool) (chains : List Chain) (ledgers left : List (List Label)) : Type 0 where
+pub record MayLeave (m : Market) (i point : ℕ) (marks : List Bool) (chains : List Chain) (ledgers : Ledgers) (left : List (List Label)) : Type 0 where
   pub well_formed : WellFormed m
   pub allowed : verdict m (Withdraw i) ≡ None
   pub at : point ≡ position_of m i
   pub region : MarkRegion m (Withdraw i) marks
   pub theirs : students_in chains ≡ students_of m
   pub labelled : AreLedgersOf m (logs_in chains) ledgers
-  pub struck : IsStruck m (Some i) ledgers left
+  pub struck : IsStruck m (Some i) ledgers.schools.items left
 
 -- marks of a region tell who passes a test that tells the region
 pub marks-test : (m : Market) (a : Amendment) (marks : List Bool) (test : ℕ → Bool) → MarkRegion m a marks → TellsRegion m a test → (p : ℕ) → p < length (students_of m) → get_or marks p false ≡ test (student_at m p)
@@ -75,7 +76,7 @@ same-rows m i j = elim (cases_Bool (i == j)) [
   | inr other ↦ sym (cond-false (i == j) (choices_of m i) (choices_of m j) other)
 ]
 
-module _ {m : Market} {i point : ℕ} {marks : List Bool} {chains : List Chain} {ledgers left : List (List Label)} (may : MayLeave m i point marks chains ledgers left) where
+module _ {m : Market} {i point : ℕ} {marks : List Bool} {chains : List Chain} {ledgers : Ledgers} {left : List (List Label)} (may : MayLeave m i point marks chains ledgers left) where
   pub leaver-tells : TellsRegion m (Withdraw i) (is_among (marked_in marks chains))
   leaver-tells =
       subst (λ xs. TellsRegion m (Withdraw i) (is_among (marked marks xs))) (sym may.theirs) (marks-tell m (Withdraw i) marks may.well_formed may.allowed refl may.region.region)
@@ -102,11 +103,11 @@ module _ {m : Market} {i point : ℕ} {marks : List Bool} {chains : List Chain} 
 
   -- and so the turns can be taken anew
   pub starts-without : (papers : Bor Market) (before : Bor (List ℕ)) (positions : List ℕ) → papers.now ≡ m → before.now ≡ choices_of m (student_at m point) → positions ≡ marked_from marks point
-      → StartsAnew m (rows_without papers before i) (is_among (marked_in marks chains)) (inner_of m m (is_among (marked_in marks chains)) None) (logs_in chains) point (labels_of m ledgers) (labels_of papers.now left) positions None
+      → StartsAnew m (rows_without papers before i) (is_among (marked_in marks chains)) (inner_of m m (is_among (marked_in marks chains)) None) (logs_in chains) point (labels_of m ledgers.schools.items) (labels_of papers.now left) ledgers.ends positions None
   starts-without papers before positions same theirs these =
       let test : ℕ → Bool = is_among (marked_in marks chains) in
       let own : before.now ≡ choices_of m i = theirs ∙ ap (choices_of m) (get_or_from_slice_get (students_of m) point i 0 leaver-here) in
-      let are : AreLeft (Some i) (labels_of m ledgers) (labels_of papers.now left) =
+      let are : AreLeft (Some i) (labels_of m ledgers.schools.items) (labels_of papers.now left) =
       struck-left m papers.now (logs_in chains) (Some i) ledgers left may.well_formed (ap schools_of same) may.labelled may.struck in
       record {
         well_formed = may.well_formed;
@@ -117,6 +118,7 @@ module _ {m : Market} {i point : ℕ} {marks : List Bool} {chains : List Chain} 
         seats = λ s other. ap (λ n. seats_of n s) same;
         keys = λ j s other. ap (λ n. key_of n j s) same;
         whole = may.labelled.whole;
+        ended = may.labelled.ended;
         kept = are.kept;
         only = are.only;
         gone = are.gone;

@@ -23,5 +23,5 @@ pub record MayFollow (m : Market) (a : Amendment) (kept : Option DistrictsView) 
 pub record IsSound (c : Inside) : Type 0 where
   pub certified : IsCertified (standing_of c)
   pub theirs : students_in c.segments ≡ students_of c.papers
-  pub ledgers : IfSome c.ledgers (λ kept. AreLedgersOf c.papers (logs_in c.segments) kept.items)
+  pub ledgers : IfSome c.ledgers (λ kept. AreLedgersOf c.papers (logs_in c.segments) kept)
   pub districts : IfSome c.districts (AreDistricts c.papers)

@@ -9,7 +9,7 @@ ghost use Rattle.sc_repair.specs.Anew.{AreLedgersOf, HavePlaces};
 use crate::places::Places;
 use crate::replacing::{move_all, place_new};
 use sc_checkpoint::Segments;
-use sc_ledgers::{Ledger, Stances, enter_last};
+use sc_ledgers::{Ledgers, Stances, enter_last};
 use sc_papers::{FlatPapers, MOST_STUDENTS, StudentNo};
 use std::alloc::{AllocError, Global};
 
@@ -20,7 +20,7 @@ use std::alloc::{AllocError, Global};
 /// The cost is an offer for each proposal of the chain.
 pub(crate) fn enter_newcomer(
     alloc: Global,
-    ledgers: &mut Vec<Ledger>,
+    ledgers: &mut Ledgers,
     papers: &FlatPapers,
     student: StudentNo,
     places: &mut Places,
@@ -28,8 +28,8 @@ pub(crate) fn enter_newcomer(
 ) -> Result<(), AllocError>
     requires last { length papers.now.students ≡ length segments.old + 1 }
     requires placed { HavePlaces (cut papers.now (length segments.old)) (logs_in segments.old) places.old }
-    requires ledgers { AreLedgersOf (cut papers.now (length segments.old)) (logs_in segments.old) ledgers.old.items }
-    ensures ledgers { OnOk result (AreLedgersOf papers.now (logs_in segments.new) ledgers.new.items) }
+    requires ledgers { AreLedgersOf (cut papers.now (length segments.old)) (logs_in segments.old) ledgers.old }
+    ensures ledgers { OnOk result (AreLedgersOf papers.now (logs_in segments.new) ledgers.new) }
     ensures pushed { OnOk result ((chain : List Rejection) × (segments.new ≡ with_chain segments.old student chain)) }
     ensures placed { OnOk result (HavePlaces papers.now (logs_in segments.new) places.new) }
     ensures unchanged { OnErr result ((places.new ≡ places.old) × (segments.new ≡ segments.old)) }

@@ -7,7 +7,7 @@ ghost use Rattle.sc_checkpoint.specs.Chains.{logs_in};
 ghost use Rattle.sc_repair.specs.Anew.{choices_before, place_in, student_in, AreLedgersOf, IsStruck};
 
 use sc_checkpoint::Segments;
-use sc_ledgers::{Ledger, open_ledgers, strike_student};
+use sc_ledgers::{Ledger, Ledgers, open_ledgers, strike_student};
 use sc_papers::{Amendment, FlatPapers, Papers, SchoolNo, StudentNo};
 use sc_stamps::Record;
 use std::alloc::{AllocError, Global};
@@ -16,13 +16,13 @@ use std::alloc::{AllocError, Global};
 /// are none, and they are opened again when they are wanted.
 pub(crate) fn taken(
     alloc: Global,
-    ledgers: &mut Option<Vec<Ledger>>,
+    ledgers: &mut Option<Ledgers>,
     papers: &FlatPapers,
     segments: &Segments,
-) -> Result<Vec<Ledger>, AllocError>
+) -> Result<Ledgers, AllocError>
     requires run { IsSegmented papers.now (logs_in segments.now) }
-    requires kept { IfSome ledgers.old (λ kept. AreLedgersOf papers.now (logs_in segments.now) kept.items) }
-    ensures taken { IfOk result (λ taken. AreLedgersOf papers.now (logs_in segments.now) taken.items) }
+    requires kept { IfSome ledgers.old (λ kept. AreLedgersOf papers.now (logs_in segments.now) kept) }
+    ensures taken { IfOk result (λ taken. AreLedgersOf papers.now (logs_in segments.now) taken) }
     ensures none { ledgers.new ≡ None }
 {
     match ledgers.take() {

@@ -11,7 +11,7 @@ ghost use Rattle.sc_repair.specs.Anew.{HavePlaces, IsSettledAnew};
 use crate::places::Places;
 use crate::replacing::{move_all, place_new};
 use sc_checkpoint::Segments;
-use sc_ledgers::{Ledger, Rows, take_anew};
+use sc_ledgers::{Ledgers, Rows, take_anew};
 use std::alloc::{AllocError, Global};
 
 /// Settles a region anew, of papers that an amendment changed, at the positions of its students from the rewind point on: their turns are
@@ -23,22 +23,22 @@ use std::alloc::{AllocError, Global};
 pub(crate) fn resettle(
     alloc: Global,
     rows: &Rows<'_>,
-    ledgers: &mut Vec<Ledger>,
+    ledgers: &mut Ledgers,
     positions: &[usize],
     place: Option<usize>,
     places: &mut Places,
     segments: &mut Segments,
 ) -> Result<(), AllocError>
-    requires one_each { length ledgers.old.items ≡ length rows.now.papers.now.schools }
-    requires within { IfSome place (λ p. p < length ledgers.old.items) }
+    requires one_each { length ledgers.old.schools.items ≡ length rows.now.papers.now.schools }
+    requires within { IfSome place (λ p. p < length ledgers.old.schools.items) }
     requires start { (m : Market) × (test : ℕ → Bool) × (inner : ℕ → Bool) × (point : ℕ) × (labels : ℕ → List Label)
-        × StartsAnew m rows.now test inner (logs_in segments.old) point labels (labels_of rows.now.papers.now ledgers.old.items) positions.now place }
-    ensures one_each { length ledgers.new.items ≡ length rows.now.papers.now.schools }
+        × StartsAnew m rows.now test inner (logs_in segments.old) point labels (labels_of rows.now.papers.now ledgers.old.schools.items) ledgers.old.ends positions.now place }
+    ensures one_each { length ledgers.new.schools.items ≡ length rows.now.papers.now.schools }
     ensures anew { OnOk result ((m : Market) (test inner : ℕ → Bool) (point : ℕ) (labels : ℕ → List Label)
-        → StartsAnew m rows.now test inner (logs_in segments.old) point labels (labels_of rows.now.papers.now ledgers.old.items) positions.now place
+        → StartsAnew m rows.now test inner (logs_in segments.old) point labels (labels_of rows.now.papers.now ledgers.old.schools.items) ledgers.old.ends positions.now place
         → HavePlaces m (logs_in segments.old) places.old
         → IsSettledAnew rows.now test point segments.old segments.new places.old places.new
-        (labels_of rows.now.papers.now ledgers.new.items)) }
+        (labels_of rows.now.papers.now ledgers.new.schools.items) ledgers.new.ends) }
     ensures unchanged { OnErr result ((places.new ≡ places.old) × (segments.new ≡ segments.old)) }
 {
     let outcome = take_anew(alloc, rows, ledgers, segments, positions, place)?;

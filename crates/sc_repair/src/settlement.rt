@@ -7,7 +7,7 @@ mod withdraw;
 
 use crate::places::Places;
 use sc_checkpoint::Segments;
-use sc_ledgers::Ledger;
+use sc_ledgers::Ledgers;
 use sc_papers::Papers;
 use sc_region::Districts;
 use std::alloc::Global;
@@ -24,7 +24,7 @@ pub(crate) struct Settlement {
     pub(crate) proposals: u64,
     // Where there are some, the ledgers of the log, by which an amendment takes turns anew and a newcomer enters. They are lost where a
     // growth is refused, and opened when they are wanted.
-    pub(crate) ledgers: Option<Vec<Ledger>>,
+    pub(crate) ledgers: Option<Ledgers>,
     // Where there are some, the districts of the papers, from which the region of an amendment is found: they are
     // kept from amendment to amendment, and made again when they are wanted.
     pub(crate) districts: Option<Districts>,

@@ -27,7 +27,7 @@ impl Settlement {
         let region = region_of(self.alloc, &mut self.districts, &self.papers, &amendment)?;
         let point = point_in(&self.papers, &region, &amendment);
         let positions = positions_from(&region, point);
-        strike(&self.papers, &mut ledgers, student_in(&amended));
+        strike(&self.papers, &mut ledgers.schools, student_in(&amended));
         // Only an entry takes memory.
         let Ok(back) = self.papers.apply_reversibly(amendment) else {
             unreachable!()
@@ -51,7 +51,8 @@ impl Settlement {
         match settled {
             Ok(()) => {
                 drop(back);
-                self.proposals = proposals_at(&self.papers, &self.segments, positions, 0);
+                let ends = &ledgers.ends;
+                self.proposals = proposals_at(&self.papers, &self.segments, ends, positions, 0);
                 self.ledgers = Some(ledgers);
                 Ok(())
             }

@@ -48,7 +48,8 @@ impl Settlement {
             Ok(()) => {
                 // The newcomer stays.
                 drop(back);
-                self.proposals = proposals_at(&self.papers, &self.segments, &[position], 0);
+                let ends = &ledgers.ends;
+                self.proposals = proposals_at(&self.papers, &self.segments, ends, &[position], 0);
                 self.ledgers = Some(ledgers);
                 Ok(())
             }

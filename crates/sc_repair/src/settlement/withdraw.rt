@@ -29,7 +29,7 @@ impl Settlement {
         let point = point_in(&self.papers, &region, &amendment);
         // This call tells that the papers are within their limits, so that the next position can be counted.
         prove!(self.papers.students_len() <= MOST_STUDENTS);
-        strike(&self.papers, &mut ledgers, Some(student));
+        strike(&self.papers, &mut ledgers.schools, Some(student));
         let papers = &self.papers;
         let rows = Rows {
             papers,
@@ -54,7 +54,8 @@ impl Settlement {
                 leave(&mut ledgers, point);
                 // Whoever stood behind the student stands one position further on.
                 let behind = positions_from(&region, point + 1);
-                self.proposals = proposals_at(&self.papers, &self.segments, behind, 1);
+                let ends = &ledgers.ends;
+                self.proposals = proposals_at(&self.papers, &self.segments, ends, behind, 1);
                 self.ledgers = Some(ledgers);
                 Ok(())
             }

@@ -12,6 +12,7 @@ use Rattle.sc_ledgers.specs.declared.following.Rows.{Rows}
 use Rattle.sc_papers.specs.declared.rejection.Rejection.{Rejection}
 use Rattle.sc_ledgers.specs.declared.ledger.Label.{Label}
 use Rattle.sc_ledgers.specs.declared.elsewhere.Stance.{Stance}
+use Rattle.sc_ledgers.specs.declared.opened.Ledgers.{Ledgers}
 use Rattle.sc_ledgers.proofs.Restarting.{begins, ends}
 use Rattle.sc_ledgers.proofs.Along.{underway-over}
 use Rattle.sc_ledgers.proofs.anew.take_anew.Goals as goal
@@ -20,8 +21,8 @@ nothing : (p : ℕ) → Contains [] p → ⊥
 nothing p (k, low, is) = omega (arith, low)
 
 -- before the first turn
-under-way : {m : Market} {rows : Rows} {test inner : ℕ → Bool} {old : List (List Rejection)} {point : ℕ} {labels : ℕ → List Label} {positions : List ℕ} {place : Option ℕ} (ledgers : List (List Label)) (renewal : Renewed) (list : List Stance) (marks : Marking)
-    → StartsAnew m rows test inner old point labels (labels_of rows.papers.now ledgers) positions place → renewal ≡ record { positions = []; chains = [] } → list ≡ first_stances rows.amended
+under-way : {m : Market} {rows : Rows} {test inner : ℕ → Bool} {old : List (List Rejection)} {point : ℕ} {labels : ℕ → List Label} {positions : List ℕ} {place : Option ℕ} (ledgers : Ledgers) (renewal : Renewed) (list : List Stance) (marks : Marking)
+    → StartsAnew m rows test inner old point labels (labels_of rows.papers.now ledgers.schools.items) ledgers.ends positions place → renewal ≡ record { positions = []; chains = [] } → list ≡ first_stances rows.amended
     → marks.always ≡ place → IfSome place (λ p. get_or marks.flags p false ≡ true) → ((pass : ℕ → Bool) → IfSome place (λ p. pass p ≡ true) → FlagsPass pass marks.flags)
     → IsUnderWay (cohort m everybody) rows (is_reseated rows.papers.now place) test inner old renewal ledgers list marks positions
 under-way {m} {rows} {test} {inner} {old} {point} {labels} {positions} {place} ledgers renewal list marks start none first always marked passes =
@@ -33,12 +34,12 @@ under-way {m} {rows} {test} {inner} {old} {point} {labels} {positions} {place} l
 pub sweep-requires-clause-start : goal.sweep-requires-clause-start
 sweep-requires-clause-start c =
     let (m, test, inner, point, labels, start) = c.requires.start in
-    (cohort m everybody, is_reseated c.args.rows.now.papers.now c.args.place, test, inner, under-way c.args.ledgers.now.items c.in_ok-renewal.renewal c.in_ok-stances.stances c.in_ok-marks.marks start c.in_ok-renewal.ensures c.in_ok-stances.ensures c.in_ok-marks.ensures.always c.in_ok-marks.ensures.marked c.in_ok-marks.ensures.passes)
+    (cohort m everybody, is_reseated c.args.rows.now.papers.now c.args.place, test, inner, under-way c.args.ledgers.now c.in_ok-renewal.renewal c.in_ok-stances.stances c.in_ok-marks.marks start c.in_ok-renewal.ensures c.in_ok-stances.ensures c.in_ok-marks.ensures.always c.in_ok-marks.ensures.marked c.in_ok-marks.ensures.passes)
 
 pub returns-clause-anew : goal.returns-clause-anew
 returns-clause-anew c m test inner point labels start =
     let over = underway-over (c.in_ok-sweep.ensures.swept (cohort m everybody) (is_reseated c.args.rows.now.papers.now c.args.place) test inner
-    (under-way c.args.ledgers.now.items c.in_ok-renewal.renewal c.in_ok-stances.stances c.in_ok-marks.marks start c.in_ok-renewal.ensures c.in_ok-stances.ensures c.in_ok-marks.ensures.always c.in_ok-marks.ensures.marked c.in_ok-marks.ensures.passes)) in
+    (under-way c.args.ledgers.now c.in_ok-renewal.renewal c.in_ok-stances.stances c.in_ok-marks.marks start c.in_ok-renewal.ensures c.in_ok-stances.ensures c.in_ok-marks.ensures.always c.in_ok-marks.ensures.marked c.in_ok-marks.ensures.passes)) in
     ends start over (λ p here. elim (c.in_ok-sweep.ensures.theirs p here) [
       | inl before ↦ absurd (nothing p (subst (λ (r : Renewed). Contains r.positions p) c.in_ok-renewal.ensures before))
       | inr now ↦ now

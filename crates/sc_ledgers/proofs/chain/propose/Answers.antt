@@ -2,7 +2,7 @@ use Rattle.std.proofs.Common.{◌≡◌, sym, ap, subst, ◌∙◌, ℕ, List, s
 use Rattle.std.proofs.lemmas.Option.{get_or_from_slice_get, slice_get_within}
 use Rattle.sc_papers.specs.Market.{choices_of, student_at}
 use Rattle.sc_ledgers.specs.Cohort.{cohort}
-use Rattle.sc_ledgers.specs.Course.{labels_at, labels_of, Came}
+use Rattle.sc_ledgers.specs.Course.{labels_of, Came}
 use Rattle.sc_ledgers.specs.Known.{IsAnswer, IsByKey}
 use Rattle.sc_ledgers.specs.declared.ledger.Answer.TheVariants.{PutsOut, Refused, Seated}
 use Rattle.sc_ledgers.proofs.Answering.{student-of-key}

@@ -1,7 +1,6 @@
-use Rattle.std.proofs.Common.{◌≡◌, ◌==◌, ap, sym, ◌∙◌, true, get_or, length}
+use Rattle.std.proofs.Common.{◌≡◌, ◌==◌, sym, ◌∙◌, length}
 use Rattle.std.proofs.lemmas.Bool.{and_parts, eqb-true, ltb-true}
 use Rattle.std.proofs.lemmas.List.{get_or_default}
-use Rattle.sc_papers.specs.declared.rejection.Rejection.{Rejection}
 use Rattle.sc_ledgers.proofs.noting.is_at.Goals as goal
 
 pub returns-in-Some : goal.returns-in-Some

@@ -7,8 +7,8 @@ pub returns-clause-whole : goal.returns-clause-whole
 returns-clause-whole c =
     let m = c.args.papers.now in
     let lists = c.note_all.new.lists.items in
-    let ledgers = c.in_ok-ledgers.ledgers.items in
-    whole-kept c.students_len.ensures.well_formed c.in_ok-note_all.ensures.whole (labels_of m ledgers) (school-kept m lists ledgers c.in_ok-ledgers.ensures)
+    let ledgers = c.in_ok-schools.schools.items in
+    whole-kept c.students_len.ensures.well_formed c.in_ok-note_all.ensures.whole (labels_of m ledgers) (school-kept m lists ledgers c.in_ok-schools.ensures)
 
 pub ledgers_of-requires : goal.ledgers_of-requires
 ledgers_of-requires c = record {

@@ -41,6 +41,6 @@ loop-position-preserved c = (
 
 pub returns-clause-swept : goal.returns-clause-swept
 returns-clause-swept c m reseated test inner start =
-    subst (IsUnderWay m c.args.rows.now reseated test inner (logs_in c.args.segments.now) c.loop-position.renewal c.loop-position.ledgers.items c.loop-position.stances c.loop-position.marks)
+    subst (IsUnderWay m c.args.rows.now reseated test inner (logs_in c.args.segments.now) c.loop-position.renewal c.loop-position.ledgers c.loop-position.stances c.loop-position.marks)
     (drop_all c.loop-position.position-index c.args.positions.now (omega (arith, c.loop-position-test.false)))
     (c.loop-position.invariant.4 m reseated test inner start)

@@ -1,10 +1,16 @@
-use Rattle.std.proofs.Common.{◌≡◌, ◌-◌, ◌<◌, ℕ, List, [], length, map, get_or, refl, sym, ap, ◌∙◌, take, arith}
+use Rattle.std.proofs.Common.{◌≡◌, ◌-◌, ◌+◌, ◌<◌, ℕ, is_some, if◌then◌else◌, List, [], length, map, get_or, refl, sym, ap, ◌∙◌, take, arith}
 use Rattle.std.specs.Prelude.{slice_index}
 use Rattle.std.proofs.lemmas.List.{get_or-map, length-map, take_all}
-use Rattle.std.proofs.lemmas.Option.{get_or_from_slice_get}
+use Rattle.std.proofs.lemmas.Option.{get_or_from_slice_get, slice_get_within}
+use Rattle.sc_papers.specs.Market.{Market, student_at}
+use Rattle.sc_papers.specs.Restriction.{IsSegmented}
+use Rattle.sc_papers.specs.declared.rejection.Rejection.{Rejection}
+use Rattle.sc_papers.proofs.Hands.{hand-student}
 use Rattle.sc_checkpoint.specs.Chains.{logs_in}
 use Rattle.sc_checkpoint.specs.Positions.{LieBelow}
-use Rattle.sc_ledgers.specs.Proposals.{made_at, made_in}
+use Rattle.sc_ledgers.specs.Ends.{place_of}
+use Rattle.sc_ledgers.specs.Proposals.{end_of, ends_placed, made_at, made_in}
+use Rattle.sc_ledgers.proofs.TurnEnds.{placed-there}
 use Rattle.sc_ledgers.proofs.TurnsCounted.{made-more, made-within}
 use Rattle.sc_ledgers.proofs.proposals.proposals_at.Goals as goal
 use Rattle.sc_ledgers.proofs.proposals.proposals_at.Goals.{After-made_in-count}
@@ -16,12 +22,26 @@ closer positions gap = map (λ p. p - gap) positions
 closer-at : (positions : List ℕ) (gap k : ℕ) → k < length positions → slice_index (closer positions gap) k ≡ slice_index positions k - gap
 closer-at positions gap k low = get_or-map (λ p. p - gap) positions k 0 0 low
 
+-- the turn is one of a student
+turn-low : (m : Market) (segments : List (List Rejection)) (t : ℕ) → IsSegmented m segments → t < length segments → t < length m.students
+turn-low m segments t run low = omega (arith, run.one_each, low, length-map m.students (λ e. e.0))
+
 -- what the turn made, of which this is the segment
 made-here : (c : After-made_in-count) → c.made_in-count.result ≡ made_in c.args.papers.now (get_or (logs_in c.args.segments.now) (get_or (closer c.args.positions.now c.args.gap) c.loop-position.position-index 0) [])
 made-here c =
+    let m = c.args.papers.now in
+    let logs = logs_in c.args.segments.now in
+    let t : ℕ = c.saturating_sub-at.result in
+    let rest = c.segment.result.now in
+    let here : get_or logs t [] ≡ rest = get_or_from_slice_get logs t rest [] c.segment.ensures in
+    let low : t < length logs = slice_get_within logs t rest c.segment.ensures in
+    let placed : is_some c.get.result ≡ ends_placed m rest =
+    ap is_some (c.get.ensures ∙ c.requires.ends.there t low ∙ ap (λ l. place_of m (end_of m (student_at m t) l)) here)
+    ∙ placed-there m c.students_len.ensures.well_formed (student_at m t) rest (hand-student m t (turn-low m logs t c.requires.run low)) in
     c.made_in-count.ensures
-    ∙ ap (made_in c.args.papers.now) (sym (get_or_from_slice_get (logs_in c.args.segments.now) c.saturating_sub-at.result c.segment.result.now [] c.segment.ensures))
-    ∙ ap (λ at. made_in c.args.papers.now (get_or (logs_in c.args.segments.now) at [])) (c.saturating_sub-at.ensures ∙ sym (closer-at c.args.positions.now c.args.gap c.loop-position.position-index c.loop-position-test.true))
+    ∙ ap (λ b. length rest + (if b then 1 else 0)) placed
+    ∙ ap (made_in m) (sym here)
+    ∙ ap (λ at. made_in m (get_or logs at [])) (c.saturating_sub-at.ensures ∙ sym (closer-at c.args.positions.now c.args.gap c.loop-position.position-index c.loop-position-test.true))
 
 pub loop-position-init : goal.loop-position-init
 unfolding made_at

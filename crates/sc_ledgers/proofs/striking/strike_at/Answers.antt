@@ -2,7 +2,7 @@ use Rattle.std.proofs.Common.{◌≡◌, sym, ap, subst, ◌∙◌, slice_set, C
 use Rattle.std.proofs.lemmas.Option.{same_Some}
 use Rattle.sc_papers.specs.Key.{key_of}
 use Rattle.sc_papers.specs.Market.{student_at}
-use Rattle.sc_ledgers.specs.Course.{labels_at, labels_of}
+use Rattle.sc_ledgers.specs.Course.{labels_of}
 use Rattle.sc_ledgers.proofs.Proposing.{ledger-here, set-here, struck-at}
 use Rattle.sc_ledgers.proofs.striking.strike_at.Goals as goal
 

@@ -1,4 +1,4 @@
-use Rattle.std.proofs.Common.{◌≡◌, inl, inr, refl, sym, ap, subst, ◌∙◌, ℕ, ◌+◌, ◌-◌, arith}
+use Rattle.std.proofs.Common.{◌≡◌, inl, inr, refl, sym, ap, subst, ◌∙◌, ℕ, ◌-◌, arith}
 use Rattle.sc_papers.specs.Market.{seats_of, student_at}
 use Rattle.sc_papers.specs.Key.{key_of}
 use Rattle.sc_ledgers.specs.Course.{labels_of}

@@ -1,4 +1,4 @@
-use Rattle.std.proofs.Common.{◌≡◌, Bool, not, true, false, refl, IfSome, Option, None, Some, ℕ, sym, subst, ◌∙◌, ◌-◌, All, drop, length, arith}
+use Rattle.std.proofs.Common.{◌≡◌, Bool, not, true, false, refl, IfSome, Option, None, Some, ℕ, sym, subst, ◌∙◌, ◌-◌, All, drop, get_or, length, arith}
 use Rattle.std.proofs.lemmas.List.{length-drop, take_all}
 use Rattle.std.proofs.lemmas.Bool.{false≢true}
 use Rattle.sc_ledgers.specs.Marks.{marked_in}
@@ -8,16 +8,14 @@ not-true : (b : Bool) → not b ≡ true → b ≡ false
 not-true true is = absurd (false≢true is)
 not-true false is = refl
 
--- what is told of a school, if there is one
-fails : (found : Option ℕ) (test : ℕ → Bool) (b : Bool) → IfSome found (λ s. b ≡ test s) → b ≡ false → IfSome found (λ s. test s ≡ false)
+-- what is told of a place, if there is one
+fails : (found : Option ℕ) (test : ℕ → Bool) (b : Bool) → IfSome found (λ place. b ≡ test place) → b ≡ false → IfSome found (λ place. test place ≡ false)
 fails None test b told is = tt
-fails (Some s) test b told is = sym told ∙ is
+fails (Some place) test b told is = sym told ∙ is
 
 pub returns-clause-unended : goal.returns-clause-unended
 returns-clause-unended c is =
-    let n = c.args.rows.now.papers.now in
-    subst (λ found. IfSome found (λ s. marked_in n c.args.marks.now.flags s ≡ false)) c.end_of-end.ensures
-    (fails c.end_of-end.result (marked_in n c.args.marks.now.flags) c.have.result c.have.ensures (not-true c.have.result is))
+    fails c.args.end (λ place. get_or c.args.marks.now.flags place false) c.is_marked.result c.is_marked.ensures (not-true c.is_marked.result is)
 
 pub returns-clause-made_too : goal.returns-clause-made_too
 returns-clause-made_too c is =

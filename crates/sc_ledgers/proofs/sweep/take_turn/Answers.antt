@@ -1,14 +1,21 @@
-use Rattle.std.proofs.Common.{◌≡◌, sym, subst, ℕ, ◌+◌, ◌<◌, [], ◌∷◌, ◌++◌, Some, IfSome, true, false, All, drop, take, get_or, length, slice_get, arith}
+use Rattle.std.proofs.Common.{◌≡◌, sym, subst, ℕ, Bool, List, ◌+◌, ◌<◌, [], ◌∷◌, ◌++◌, Some, IfSome, true, false, All, drop, take, get_or, length, slice_get, arith}
 use Rattle.std.proofs.lemmas.List.{length-map}
 use Rattle.std.proofs.lemmas.Option.{slice_get-get_or}
 use Rattle.sc_papers.specs.Market.{Market, schools_of, student_at, students_of}
 use Rattle.sc_papers.specs.Restriction.{joined}
+use Rattle.sc_papers.specs.declared.rejection.Rejection.{Rejection}
+use Rattle.sc_ledgers.specs.Cohort.{cut, Cohort}
 use Rattle.sc_ledgers.specs.Course.{labels_of}
-use Rattle.sc_ledgers.specs.Ledger.{log_at, IsRefusedToo}
+use Rattle.sc_ledgers.specs.Elsewhere.{cohort_of, is_aside}
+use Rattle.sc_ledgers.specs.Ends.{NamesNone}
+use Rattle.sc_ledgers.specs.Proposals.{end_of}
+use Rattle.sc_ledgers.specs.Sweep.{is_amended, IsNext, IsTaken}
+use Rattle.sc_ledgers.specs.Ledger.{log_at, AreMadeToo, IsRefusedToo}
 use Rattle.sc_ledgers.specs.Marks.{marked_in, IsNamed, MarksFollow}
-use Rattle.sc_ledgers.proofs.Sweeping.{due-of, stays-of, swept-anew, swept-stays}
-use Rattle.sc_ledgers.proofs.Turning.{at-marked, named-inner, named-known, nobody-marked, rest-made, segment-inside, throughout-follow, turn-within}
+use Rattle.sc_ledgers.proofs.Sweeping.{due-of, stays-of, swept-anew, swept-stays, unamended}
+use Rattle.sc_ledgers.proofs.Turning.{at-marked, named-inner, named-known, nobody-marked, rest-made, segment-inside, throughout-follow, turn-within, unended}
 use Rattle.sc_ledgers.proofs.sweep.take_turn.Goals as goal
+use Rattle.sc_ledgers.proofs.sweep.take_turn.Goals.{After-is_still}
 
 student-here : (n : Market) (position k : ℕ) → position ≡ k → k < length (students_of n) → slice_get (students_of n) k ≡ Some (student_at n position)
 student-here n position k same low = subst (λ p. slice_get (students_of n) p ≡ Some (student_at n position)) same (slice_get-get_or (students_of n) position 0 (omega (arith, same, low)))
@@ -18,21 +25,44 @@ is_still-requires c =
     let (m, olds, news, reseated, next) = c.requires.next in
     omega (arith, turn-within next, c.requires.first, length-map c.args.rows.now.papers.now.students (λ e. e.0))
 
+-- what is known of a turn that stays
+module _ (c : After-is_still) (still : c.is_still.result ≡ true) {m : Cohort} {olds news : List (List Rejection)} {reseated : ℕ → Bool} (next : IsNext m (cohort_of c.args.rows.now) c.args.rows.now.amended c.args.rows.now.before.now reseated olds news c.args.turn c.args.old.now (labels_of c.args.rows.now.papers.now c.args.ledgers.now.items) c.args.stances.now c.args.marks.now) where
+  abbrev n : Market
+  n = c.args.rows.now.papers.now
+
+  abbrev i : ℕ
+  i = student_at n c.args.position
+
+  here : slice_get (students_of n) c.args.turn ≡ Some i
+  here = student-here n c.args.position c.args.turn c.requires.first (turn-within next)
+
+  beside : is_amended c.args.rows.now.amended i ≡ false
+  beside = c.is_still.ensures.beside still
+
+  parts : (p : ℕ) × All (IsRefusedToo n (marked_in n c.args.marks.now.flags) (labels_of n c.args.ledgers.now.items) c.args.turn i) (take p c.args.old.now) × All (λ e. marked_in n c.args.marks.now.flags e.school ≡ false) (drop p c.args.old.now)
+  parts = subst (λ ledgers. (p : ℕ) × All (IsRefusedToo n (marked_in n c.args.marks.now.flags) (labels_of n ledgers) c.args.turn i) (take p c.args.old.now) × All (λ e. marked_in n c.args.marks.now.flags e.school ≡ false) (drop p c.args.old.now)) c.deref.ensures.value (c.is_still.ensures.made_too still)
+
+  made : AreMadeToo (cut (cohort_of c.args.rows.now) (c.args.turn + 1)) (marked_in n c.args.marks.now.flags) (is_aside c.args.stances.now) (joined news) c.args.old.now
+  made = rest-made next.both next.swept i c.args.old.now parts.0 here beside next.here parts.1 parts.2
+
+  pub names-none : NamesNone c.args.rows.now.amended i c.args.old.now
+  names-none = (beside, unamended next.both next.swept i c.args.old.now here beside next.here made)
+
+  pub taken : IsTaken m (cohort_of c.args.rows.now) c.args.rows.now.amended reseated olds news c.args.turn c.args.old.now (labels_of n c.args.ledgers.now.items) c.args.stances.now c.args.marks.now
+  taken = record {
+    swept = swept-stays (stays-of next.both next.swept i c.args.old.now here beside next.here made
+        (nobody-marked next.both next.swept i c.args.old.now parts.0 here beside next.here parts.1 parts.2 made
+        (unended n c.args.marks.now.flags (end_of n i c.args.old.now) c.args.end (c.requires.ended names-none) (c.is_still.ensures.unended still)))) next.swept;
+    throughout = next.throughout;
+  }
+
 pub returns-then-is_still-clause-taken : goal.returns-then-is_still-clause-taken
-returns-then-is_still-clause-taken c m olds news reseated next =
-    let n = c.args.rows.now.papers.now in
-    let k : ℕ = c.args.turn in
-    let i : ℕ = student_at n c.args.position in
-    let rest = c.args.old.now in
-    let still = c.if-is_still.true in
-    let here = student-here n c.args.position k c.requires.first (turn-within next) in
-    let beside = c.is_still.ensures.beside still in
-    let (p, refused, later) = subst (λ ledgers. (p : ℕ) × All (IsRefusedToo n (marked_in n c.args.marks.now.flags) (labels_of n ledgers) k i) (take p rest) × All (λ e. marked_in n c.args.marks.now.flags e.school ≡ false) (drop p rest)) c.deref.ensures.value (c.is_still.ensures.made_too still) in
-    let made = rest-made next.both next.swept i rest p here beside next.here refused later in
-    record {
-      swept = swept-stays (stays-of next.both next.swept i rest here beside next.here made (nobody-marked next.both next.swept i rest p here beside next.here refused later made (c.is_still.ensures.unended still))) next.swept;
-      throughout = next.throughout;
-    }
+returns-then-is_still-clause-taken c m olds news reseated next = taken (goal.at.returns-then-is_still-clause-taken c).After-is_still c.if-is_still.true next
+
+pub returns-then-is_still-clause-beside : goal.returns-then-is_still-clause-beside
+returns-then-is_still-clause-beside c none =
+    let (m, olds, news, reseated, next) = c.requires.next in
+    names-none (goal.at.returns-then-is_still-clause-beside c).After-is_still c.if-is_still.true next
 
 pub retake-requires-clause-due : goal.retake-requires-clause-due
 retake-requires-clause-due c =

@@ -1,4 +1,4 @@
-use Rattle.std.proofs.Common.{ap, sym, subst, List, get_or, length, arith}
+use Rattle.std.proofs.Common.{sym, subst, List, get_or, arith}
 use Rattle.std.proofs.lemmas.List.{length-map}
 use Rattle.std.proofs.lemmas.List.Elements.{Contains-get_or}
 use Rattle.sc_checkpoint.specs.Chains.{logs_in}
@@ -19,7 +19,7 @@ put_in-requires c k low =
 pub returns-clause-anew : goal.returns-clause-anew
 returns-clause-anew c m test inner point labels start stood =
     let renewed = c.in_ok-outcome.outcome.renewal in
-    let ends = subst (λ (list : List Stance). EndsAnew m c.args.rows.now test (logs_in c.args.segments.now) point renewed (labels_of c.args.rows.now.papers.now c.take_anew.new.ledgers.items) list) (sym c.as_slice-stances.ensures.value)
+    let ends = subst (λ (list : List Stance). EndsAnew m c.args.rows.now test (logs_in c.args.segments.now) point renewed (labels_of c.args.rows.now.papers.now c.take_anew.new.ledgers.schools.items) c.take_anew.new.ledgers.ends list) (sym c.as_slice-stances.ensures.value)
     (c.in_ok-outcome.ensures.anew m test inner point labels start) in
-    subst (λ (chains : List Chain). IsSettledAnew c.args.rows.now test point c.args.segments.now chains c.args.places.now c.move_all.new.places (labels_of c.args.rows.now.papers.now c.take_anew.new.ledgers.items)) (sym (c.in_default.ensures.replaced))
+    subst (λ (chains : List Chain). IsSettledAnew c.args.rows.now test point c.args.segments.now chains c.args.places.now c.move_all.new.places (labels_of c.args.rows.now.papers.now c.take_anew.new.ledgers.schools.items) c.take_anew.new.ledgers.ends) (sym (c.in_default.ensures.replaced))
     (resettled c.args.segments.now renewed c.as_slice-stances.result.now c.args.places.now c.place_new.new.places c.move_all.new.places ends c.as_slice-stances.ensures.apart c.in_ok-outcome.ensures.owners c.in_ok-place_new.ensures.given c.move_all.ensures stood)

@@ -6,6 +6,7 @@ use Rattle.sc_papers.specs.Verdict.{after, verdict}
 use Rattle.sc_checkpoint.specs.Chains.{logs_in, students_in}
 use Rattle.sc_ledgers.specs.Proposals.{made_at}
 use Rattle.sc_region.specs.Districts.{AreDistricts}
+use Rattle.sc_ledgers.specs.Ends.{AreEnds}
 use Rattle.sc_repair.specs.Anew.{AreLedgersOf}
 use Rattle.sc_repair.specs.Changed.{standing_of}
 use Rattle.sc_repair.specs.Standing.{Standing, IsAmended, IsCertified}
@@ -24,14 +25,14 @@ admits c = record {
 }
 
 -- and they have entered
-come : (c : In-Ok-entered) → HasCome c.deref-3.result.now c.args.student c.self.inside.segments c.enter_newcomer-entered.new.segments c.enter_newcomer-entered.new.places c.enter_newcomer-entered.new.ledgers.items
+come : (c : In-Ok-entered) → HasCome c.deref-3.result.now c.args.student c.self.inside.segments c.enter_newcomer-entered.new.segments c.enter_newcomer-entered.new.places c.enter_newcomer-entered.new.ledgers
 come c =
     let entered = c.in-Ok-entered.ensures in
     record { chain = entered.pushed.0; pushed = entered.pushed.1; kept = entered.ledgers; placed = entered.placed }
 
 -- the proposals of their chain are counted
 amended : (c : After-proposals_at-self-inside) → Admits c.self.inside.papers c.deref-3.result.now c.args.amendment c.args.student c.self.inside.segments c.self.inside.places c.self.inside.proposals
-    → HasCome c.deref-3.result.now c.args.student c.self.inside.segments c.enter_newcomer-entered.new.segments c.enter_newcomer-entered.new.places c.enter_newcomer-entered.new.ledgers.items
+    → HasCome c.deref-3.result.now c.args.student c.self.inside.segments c.enter_newcomer-entered.new.segments c.enter_newcomer-entered.new.places c.enter_newcomer-entered.new.ledgers
     → IsAmended {E = AllocError} (Ok tt) (standing_of c.self.inside.papers c.self.inside.places c.self.inside.segments c.self.inside.proposals) c.args.amendment
     (standing_of c.apply_reversibly.new.self c.enter_newcomer-entered.new.places c.enter_newcomer-entered.new.segments c.proposals_at-self-inside.result)
 amended c before entered =
@@ -50,14 +51,20 @@ enter_newcomer-entered-requires-clause-last c = admitted-last (admits (goal.at.e
 
 pub enter_newcomer-entered-requires-clause-ledgers : goal.enter_newcomer-entered-requires-clause-ledgers
 enter_newcomer-entered-requires-clause-ledgers c =
-    admitted-ledgers (admits (goal.at.enter_newcomer-entered-requires-clause-ledgers c).After-deref-3) c.in_ok-ledgers.ledgers.items
-    (subst (λ m. AreLedgersOf m (logs_in c.self.inside.segments) c.in_ok-ledgers.ledgers.items) c.deref.ensures c.in_ok-ledgers.ensures.taken)
+    admitted-ledgers (admits (goal.at.enter_newcomer-entered-requires-clause-ledgers c).After-deref-3) c.in_ok-ledgers.ledgers
+    (subst (λ m. AreLedgersOf m (logs_in c.self.inside.segments) c.in_ok-ledgers.ledgers) c.deref.ensures c.in_ok-ledgers.ensures.taken)
 
 pub proposals_at-self-inside-requires-clause-run : goal.proposals_at-self-inside-requires-clause-run
 proposals_at-self-inside-requires-clause-run c =
     let at = goal.at.proposals_at-self-inside-requires-clause-run c in
     subst (λ n. IsSegmented n (logs_in c.enter_newcomer-entered.new.segments)) (c.deref-3.ensures ∙ sym c.deref-in-Ok-entered.ensures)
     (admitted-run (admits at.After-deref-3) (come at.In-Ok-entered))
+
+pub proposals_at-self-inside-requires-clause-ends : goal.proposals_at-self-inside-requires-clause-ends
+proposals_at-self-inside-requires-clause-ends c =
+    let at = goal.at.proposals_at-self-inside-requires-clause-ends c in
+    subst (λ n. AreEnds n (logs_in c.enter_newcomer-entered.new.segments) c.enter_newcomer-entered.new.ledgers.ends) (c.deref-3.ensures ∙ sym c.deref-in-Ok-entered.ensures)
+    (come at.In-Ok-entered).kept.ended
 
 pub invariant_of-self-in-Ok-entered : goal.invariant_of-self-in-Ok-entered
 invariant_of-self-in-Ok-entered c =
@@ -67,7 +74,7 @@ invariant_of-self-in-Ok-entered c =
     record {
       certified = (amended at.After-proposals_at-self-inside before entered).certified;
       theirs = admitted-theirs before entered ∙ ap students_of c.deref-3.ensures;
-      ledgers = subst (λ n. AreLedgersOf n (logs_in c.enter_newcomer-entered.new.segments) c.enter_newcomer-entered.new.ledgers.items) c.deref-3.ensures entered.kept;
+      ledgers = subst (λ n. AreLedgersOf n (logs_in c.enter_newcomer-entered.new.segments) c.enter_newcomer-entered.new.ledgers) c.deref-3.ensures entered.kept;
       districts = subst (λ m. IfSome c.follow.new.districts (AreDistricts m)) (ap (λ m. after m c.args.amendment) c.deref-2.ensures ∙ sym c.in-Ok.ensures.accepted) c.follow.ensures;
     }
 
@@ -78,7 +85,7 @@ invariant_of-self-in-Err-entered c =
     record {
       certified = subst IsCertified (sym (same-standing back kept.0 kept.1 c.self.inside.proposals)) c.self.invariant.certified;
       theirs = ap students_in kept.1 ∙ c.self.invariant.theirs ∙ ap students_of (sym back);
-      ledgers = subst (λ o. IfSome o (λ ledgers. AreLedgersOf c.take_back.new.self (logs_in c.enter_newcomer-entered.new.segments) ledgers.items)) (sym c.in_ok-ledgers.ensures.none) tt;
+      ledgers = subst (λ o. IfSome o (λ ledgers. AreLedgersOf c.take_back.new.self (logs_in c.enter_newcomer-entered.new.segments) ledgers)) (sym c.in_ok-ledgers.ensures.none) tt;
       districts = tt;
     }
 

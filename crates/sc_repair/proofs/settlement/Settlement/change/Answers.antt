@@ -17,6 +17,7 @@ use Rattle.sc_ledgers.specs.Anew.{StartsAnew}
 use Rattle.sc_ledgers.specs.Course.{labels_of}
 use Rattle.sc_ledgers.specs.declared.following.Rows.{Rows}
 use Rattle.sc_stamps.specs.Record.{record_of}
+use Rattle.sc_ledgers.specs.Ends.{AreEnds}
 use Rattle.sc_repair.specs.Anew.{choices_before, place_in, student_in, AreLedgersOf, IsStruck}
 use Rattle.sc_repair.specs.Changed.{standing_of}
 use Rattle.sc_repair.specs.Locality.{marked_in}
@@ -53,16 +54,16 @@ lies-apart c = subst (λ p. AreApart p (region_of c.in_ok-region.region c.self.i
 
 -- so the turns of the region can be taken anew
 starts : (c : After-place_in) → StartsAnew c.self.inside.papers (record { papers = c.deref-5.result; amended = c.student_in-2.result; before = c.choices_before.result; leaves = false }) (region_of c.in_ok-region.region c.self.inside.segments) (schools_in c.self.inside.papers c.args.amendment c.in_ok-region.region c.self.inside.segments) (logs_in c.self.inside.segments) c.point_in-point.result
-    (labels_of c.self.inside.papers c.in_ok-ledgers.ledgers.items) (labels_of c.deref-5.result.now c.strike.new.ledgers.items) c.positions_from-positions.result.now c.place_in.result
+    (labels_of c.self.inside.papers c.in_ok-ledgers.ledgers.schools.items) (labels_of c.deref-5.result.now c.strike.new.ledgers.items) c.in_ok-ledgers.ledgers.ends c.positions_from-positions.result.now c.place_in.result
 starts c =
     let m = c.self.inside.papers in
     let rows : Rows = record { papers = c.deref-5.result; amended = c.student_in-2.result; before = c.choices_before.result; leaves = false } in
     let amends = c.record_of-amended.ensures in
-    starts-in-place (in-place c) c.deref-5.result.now c.in-Ok.back rows c.in_ok-ledgers.ledgers.items c.strike.new.ledgers.items c.point_in-point.result c.positions_from-positions.result.now c.place_in.result (made c)
+    starts-in-place (in-place c) c.deref-5.result.now c.in-Ok.back rows c.in_ok-ledgers.ledgers c.strike.new.ledgers.items c.point_in-point.result c.positions_from-positions.result.now c.place_in.result (made c)
     (subst (λ p. TakesBack m p c.in-Ok.back) (sym c.deref-5.ensures) c.in-Ok.ensures.back)
-    (subst (λ p. AreLedgersOf p (logs_in c.self.inside.segments) c.in_ok-ledgers.ledgers.items) c.deref.ensures c.in_ok-ledgers.ensures.taken)
-    (subst (λ p. IsStruck p (student_in (record_of c.args.amendment)) c.in_ok-ledgers.ledgers.items c.strike.new.ledgers.items) c.deref-4.ensures
-    (subst (λ o. IsStruck c.deref-4.result.now o c.in_ok-ledgers.ledgers.items c.strike.new.ledgers.items) (c.student_in.ensures ∙ ap student_in amends) c.strike.ensures.struck))
+    (subst (λ p. AreLedgersOf p (logs_in c.self.inside.segments) c.in_ok-ledgers.ledgers) c.deref.ensures c.in_ok-ledgers.ensures.taken)
+    (subst (λ p. IsStruck p (student_in (record_of c.args.amendment)) c.in_ok-ledgers.ledgers.schools.items c.strike.new.ledgers.items) c.deref-4.ensures
+    (subst (λ o. IsStruck c.deref-4.result.now o c.in_ok-ledgers.ledgers.schools.items c.strike.new.ledgers.items) (c.student_in.ensures ∙ ap student_in amends) c.strike.ensures.struck))
     refl (c.student_in-2.ensures ∙ ap student_in amends)
     (c.choices_before.ensures ∙ (λ t. choices_before (sym c.deref-5.ensures t) c.in-Ok.back ((c.student_in-3.ensures ∙ ap student_in amends) t)))
     (c.point_in-point.ensures ∙ ap (λ p. rewind_point p c.args.amendment) c.deref-3.ensures)
@@ -85,7 +86,7 @@ resettle-settled-requires-clause-within c =
 pub resettle-settled-requires-clause-start : goal.resettle-settled-requires-clause-start
 resettle-settled-requires-clause-start c =
     let made = (goal.at.resettle-settled-requires-clause-start c).After-place_in in
-    (c.self.inside.papers, region_of c.in_ok-region.region c.self.inside.segments, schools_in c.self.inside.papers c.args.amendment c.in_ok-region.region c.self.inside.segments, c.point_in-point.result, labels_of c.self.inside.papers c.in_ok-ledgers.ledgers.items, starts made)
+    (c.self.inside.papers, region_of c.in_ok-region.region c.self.inside.segments, schools_in c.self.inside.papers c.args.amendment c.in_ok-region.region c.self.inside.segments, c.point_in-point.result, labels_of c.self.inside.papers c.in_ok-ledgers.ledgers.schools.items, starts made)
 
 pub proposals_at-self-inside-requires-clause-within : goal.proposals_at-self-inside-requires-clause-within
 proposals_at-self-inside-requires-clause-within c =
@@ -106,6 +107,12 @@ proposals_at-self-inside-requires-clause-run c =
     subst (λ p. IsSegmented p (logs_in c.resettle-settled.new.segments)) (c.deref-5.ensures ∙ sym c.deref-in-Ok-settled.ensures)
     (settled-run (c.in-Ok-settled.ensures.anew _ _ _ _ _ begun c.self.invariant.certified.matching) refl begun.well_new)
 
+pub proposals_at-self-inside-requires-clause-ends : goal.proposals_at-self-inside-requires-clause-ends
+proposals_at-self-inside-requires-clause-ends c =
+    let begun = starts (goal.at.proposals_at-self-inside-requires-clause-ends c).After-place_in in
+    subst (λ p. AreEnds p (logs_in c.resettle-settled.new.segments) c.resettle-settled.new.ledgers.ends) (c.deref-5.ensures ∙ sym c.deref-in-Ok-settled.ensures)
+    (c.in-Ok-settled.ensures.anew _ _ _ _ _ begun c.self.invariant.certified.matching).ended
+
 pub invariant_of-self-in-Ok-settled : goal.invariant_of-self-in-Ok-settled
 invariant_of-self-in-Ok-settled c =
     let made = (goal.at.invariant_of-self-in-Ok-settled c).After-place_in in
@@ -114,7 +121,7 @@ invariant_of-self-in-Ok-settled c =
     record {
       certified = resettled.certified;
       theirs = resettled.theirs;
-      ledgers = subst (λ p. AreLedgersOf p (logs_in c.resettle-settled.new.segments) c.resettle-settled.new.ledgers.items) c.deref-5.ensures (record { one_each = c.in-Ok-settled.ensures.one_each; whole = settled-whole anew refl });
+      ledgers = subst (λ p. AreLedgersOf p (logs_in c.resettle-settled.new.segments) c.resettle-settled.new.ledgers) c.deref-5.ensures (record { one_each = c.in-Ok-settled.ensures.one_each; whole = settled-whole anew refl; ended = anew.ended });
       districts = subst (λ m. IfSome c.region_of.new.districts (AreDistricts m)) (ap (λ p. after p c.args.amendment) c.deref-2.ensures ∙ sym c.in-Ok.ensures.accepted) c.in_ok-region.ensures.in_step;
     }
 
@@ -124,7 +131,7 @@ invariant_of-self-in-Err-settled c =
     record {
       certified = subst IsCertified (sym (same-standing papers c.in-Err.ensures.unchanged.0 c.in-Err.ensures.unchanged.1 c.self.inside.proposals)) c.self.invariant.certified;
       theirs = ap students_in c.in-Err.ensures.unchanged.1 ∙ c.self.invariant.theirs ∙ ap students_of (sym papers);
-      ledgers = subst (λ o. IfSome o (λ kept. AreLedgersOf c.take_back.new.self (logs_in c.resettle-settled.new.segments) kept.items)) (sym c.taken.ensures.none) tt;
+      ledgers = subst (λ o. IfSome o (λ kept. AreLedgersOf c.take_back.new.self (logs_in c.resettle-settled.new.segments) kept)) (sym c.taken.ensures.none) tt;
       districts = tt;
     }
 

@@ -10,6 +10,7 @@ use Rattle.sc_region.specs.Districts.{AreDistricts}
 use Rattle.sc_region.specs.Telling.{MarkRegion}
 use Rattle.sc_ledgers.specs.Course.{labels_of}
 use Rattle.sc_ledgers.specs.Proposals.{made_at}
+use Rattle.sc_ledgers.specs.Ends.{AreEnds}
 use Rattle.sc_repair.specs.Anew.{AreLedgersOf, IsSettledAnew, IsStruck}
 use Rattle.sc_repair.specs.Locality.{is_among, marked_in}
 use Rattle.sc_repair.specs.Rewinding.{rewind_point}
@@ -22,15 +23,15 @@ use Rattle.sc_repair.proofs.settlement.Settlement.withdraw.Goals as goal
 use Rattle.sc_repair.proofs.settlement.Settlement.withdraw.Goals.{After-leave-in-Ok, After-strike, In-Ok}
 
 -- the student may leave
-may : (c : After-strike) → MayLeave c.self.inside.papers c.args.student c.point_in-point.result c.in_ok-region.region c.self.inside.segments c.in_ok-ledgers.ledgers.items c.strike.new.ledgers.items
+may : (c : After-strike) → MayLeave c.self.inside.papers c.args.student c.point_in-point.result c.in_ok-region.region c.self.inside.segments c.in_ok-ledgers.ledgers c.strike.new.ledgers.items
 may c = record {
   well_formed = c.self.invariant.certified.well_formed;
   allowed = ap (λ (s : Standing). verdict s.papers (Withdraw c.args.student)) c.self.view_is ∙ c.requires;
   at = c.point_in-point.ensures ∙ ap (λ p. rewind_point p (Withdraw c.args.student)) c.deref-3.ensures;
   region = subst (λ p. MarkRegion p (Withdraw c.args.student) c.in_ok-region.region) c.deref-2.ensures c.in_ok-region.ensures.region;
   theirs = c.self.invariant.theirs;
-  labelled = subst (λ p. AreLedgersOf p (logs_in c.self.inside.segments) c.in_ok-ledgers.ledgers.items) c.deref.ensures c.in_ok-ledgers.ensures.taken;
-  struck = subst (λ p. IsStruck p (Some c.args.student) c.in_ok-ledgers.ledgers.items c.strike.new.ledgers.items) c.deref-5.ensures c.strike.ensures.struck;
+  labelled = subst (λ p. AreLedgersOf p (logs_in c.self.inside.segments) c.in_ok-ledgers.ledgers) c.deref.ensures c.in_ok-ledgers.ensures.taken;
+  struck = subst (λ p. IsStruck p (Some c.args.student) c.in_ok-ledgers.ledgers.schools.items c.strike.new.ledgers.items) c.deref-5.ensures c.strike.ensures.struck;
 }
 
 pub choices_at-requires : goal.choices_at-requires
@@ -44,26 +45,26 @@ resettle-settled-requires-clause-start c =
       is_among (marked_in c.in_ok-region.region c.self.inside.segments),
       _,
       c.point_in-point.result,
-      labels_of m c.in_ok-ledgers.ledgers.items,
+      labels_of m c.in_ok-ledgers.ledgers.schools.items,
       starts-without leaver c.deref-6.result c.choices_at.result c.positions_from.result.now c.deref-6.ensures c.choices_at.ensures.choices c.positions_from.ensures,
     )
 
 -- the turns were taken anew
-settled : (c : In-Ok) → MayLeave c.self.inside.papers c.args.student c.point_in-point.result c.in_ok-region.region c.self.inside.segments c.in_ok-ledgers.ledgers.items c.strike.new.ledgers.items
+settled : (c : In-Ok) → MayLeave c.self.inside.papers c.args.student c.point_in-point.result c.in_ok-region.region c.self.inside.segments c.in_ok-ledgers.ledgers c.strike.new.ledgers.items
     → IsSettledAnew (rows_without c.deref-6.result c.choices_at.result c.args.student) (is_among (marked_in c.in_ok-region.region c.self.inside.segments)) c.point_in-point.result c.self.inside.segments c.resettle-settled.new.segments c.self.inside.places
-    c.resettle-settled.new.places (labels_of c.deref-6.result.now c.resettle-settled.new.ledgers.items)
+    c.resettle-settled.new.places (labels_of c.deref-6.result.now c.resettle-settled.new.ledgers.schools.items) c.resettle-settled.new.ledgers.ends
 settled c leaver =
     let m = c.self.inside.papers in
-    c.in-Ok.ensures.anew m (is_among (marked_in c.in_ok-region.region c.self.inside.segments)) _ c.point_in-point.result (labels_of m c.in_ok-ledgers.ledgers.items)
+    c.in-Ok.ensures.anew m (is_among (marked_in c.in_ok-region.region c.self.inside.segments)) _ c.point_in-point.result (labels_of m c.in_ok-ledgers.ledgers.schools.items)
     (starts-without leaver c.deref-6.result c.choices_at.result c.positions_from.result.now c.deref-6.ensures c.choices_at.ensures.choices c.positions_from.ensures)
     c.self.invariant.certified.matching
 
 -- and the student has left
 has-left : (c : After-leave-in-Ok) → IsSettledAnew (rows_without c.deref-6.result c.choices_at.result c.args.student) (is_among (marked_in c.in_ok-region.region c.self.inside.segments)) c.point_in-point.result c.self.inside.segments
-    c.resettle-settled.new.segments c.self.inside.places c.resettle-settled.new.places (labels_of c.deref-6.result.now c.resettle-settled.new.ledgers.items)
+    c.resettle-settled.new.segments c.self.inside.places c.resettle-settled.new.places (labels_of c.deref-6.result.now c.resettle-settled.new.ledgers.schools.items) c.resettle-settled.new.ledgers.ends
     → HasLeft c.self.inside.papers c.withdraw.new.self c.args.student c.point_in-point.result (is_among (marked_in c.in_ok-region.region c.self.inside.segments))
     c.deref-6.result c.choices_at.result c.self.inside.segments c.resettle-settled.new.segments c.remove.new.self
-    c.self.inside.places c.resettle-settled.new.places c.leave.new.self c.resettle-settled.new.ledgers.items c.leave-in-Ok.new.ledgers.items
+    c.self.inside.places c.resettle-settled.new.places c.leave.new.self c.resettle-settled.new.ledgers c.leave-in-Ok.new.ledgers
 has-left c anew = record {
   same = c.deref-6.ensures;
   settled = anew;
@@ -72,6 +73,7 @@ has-left c anew = record {
   given = c.leave.ensures;
   one_each = c.leave-in-Ok.ensures.one_each ∙ c.in-Ok.ensures.one_each;
   without = c.leave-in-Ok.ensures.without c.self.inside.papers;
+  ends = c.leave-in-Ok.ensures.ends;
 }
 
 pub remove-requires : goal.remove-requires
@@ -104,6 +106,20 @@ proposals_at-self-inside-requires-clause-run c =
     let before = goal.at.proposals_at-self-inside-requires-clause-run c in
     let leaver = may before.After-strike in
     subst (λ p. IsSegmented p (logs_in c.remove.new.self)) (sym c.deref-in-Ok.ensures) (left-segmented leaver (has-left before.After-leave-in-Ok (settled before.In-Ok leaver)))
+
+pub proposals_at-self-inside-requires-clause-ends : goal.proposals_at-self-inside-requires-clause-ends
+proposals_at-self-inside-requires-clause-ends c =
+    let before = goal.at.proposals_at-self-inside-requires-clause-ends c in
+    let leaver = may before.After-strike in
+    subst (λ p. AreEnds p (logs_in c.remove.new.self) c.leave-in-Ok.new.ledgers.ends) (sym c.deref-in-Ok.ensures) (left-ledgers leaver (has-left before.After-leave-in-Ok (settled before.In-Ok leaver))).ended
+
+pub leave-requires-in-Ok : goal.leave-requires-in-Ok
+leave-requires-in-Ok c =
+    let before = goal.at.leave-requires-in-Ok c in
+    let leaver = may before.After-strike in
+    let anew = settled before.In-Ok leaver in
+    let new = c.resettle-settled.new.segments in
+    omega (arith, leaver-low leaver, anew.ended.one_each, length-map new (λ (chain : Chain). chain.rejections), ap (λ (xs : List ℕ). length xs) (anew.theirs ∙ c.self.invariant.theirs), length-map new (λ (chain : Chain). chain.student))
 
 pub invariant_of-self-in-Ok : goal.invariant_of-self-in-Ok
 invariant_of-self-in-Ok c =

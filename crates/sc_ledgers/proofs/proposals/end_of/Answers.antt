@@ -2,7 +2,7 @@ use Rattle.std.proofs.Common.{ap, ◌∙◌, slice_get}
 use Rattle.std.specs.Option.{option_map_or}
 use Rattle.sc_papers.specs.Market.{choices_of, student_at}
 use Rattle.sc_ledgers.specs.Proposals.{choice_after, end_of}
-use Rattle.sc_ledgers.proofs.sweep.end_of.Goals as goal
+use Rattle.sc_ledgers.proofs.proposals.end_of.Goals as goal
 
 pub returns-in-Some : goal.returns-in-Some
 unfolding end_of

@@ -5,7 +5,7 @@ use Rattle.std.proofs.lemmas.List.{with_items_is}
 use Rattle.std.proofs.lemmas.List.Edits.{map_over_more}
 use Rattle.sc_ledgers.specs.Left.{label_without}
 use Rattle.sc_ledgers.proofs.Leavers.{labels-without, map-over-all}
-use Rattle.sc_ledgers.proofs.leaving.leave.Goals as goal
+use Rattle.sc_ledgers.proofs.leaving.leave_each.Goals as goal
 
 pub loop-ledger-preserved : goal.loop-ledger-preserved
 loop-ledger-preserved c =
