@@ -1,20 +1,24 @@
 -- The fields of the type `FlatPapers` stay sound where a student goes, or where what they hold of a student or a school changes.
-use Rattle.std.proofs.Common.{◌≡◌, ℕ, ◌≤◌, ◌+◌, nat_eq, Bool, cond, false, true, All, List, [], ◌∷◌, Option, Some, None, length, inl, inr, refl, ap, sym, ◌∙◌, arith}
+use Rattle.std.proofs.Common.{◌≡◌, ℕ, ◌<◌, ◌≤◌, ◌+◌, nat_eq, Bool, cond, false, true, All, List, [], ◌∷◌, Option, Some, None, length, inl, inr, refl, ap, sym, ◌∙◌, arith}
 use Rattle.std.specs.Prelude.{is_some, nat_lt, position, remove, slice_set}
 use Rattle.std.specs.List.{AllByRecursion, IsDistinct, list_any}
 use Rattle.std.specs.Option.{option_map_or}
 use Rattle.std.specs.Map.{keys_of, lookup, remove_entry, set_value}
 use Rattle.std.proofs.lemmas.Bool.{cases_Bool, cond-false, eqb-true, false≢true}
 use Rattle.std.proofs.lemmas.Cmp.{nat_eq_equiv}
+use Rattle.std.proofs.lemmas.List.{length-map}
+use Rattle.std.proofs.lemmas.List.Edits.{length-remove}
 use Rattle.std.proofs.lemmas.List.Elements.{All-cons, All-head, All-nil, All-tail}
+use Rattle.std.proofs.lemmas.List.Quantifiers.{position-Some}
 use Rattle.std.proofs.lemmas.Map.{keys-set_value, lookup-remove_entry}
 use Rattle.std.proofs.lemmas.Option.{same_Some}
+use Rattle.std.proofs.lemmas.Map.Entries.{length-keys_of}
 use Rattle.std.proofs.lemmas.Map.Made.{is_some-lookup}
 use Rattle.indexmap.specs.IndexMap.{index_map_len, spare}
 use Rattle.sc_lottery.specs.Draw.{draw}
 use Rattle.sc_papers.specs.Market.{Market, is_student, student_of, students_of, zone_at}
-use Rattle.sc_papers.specs.Representation.{IsSound, AreKept, AreOfStudents, market_of, rows_of}
-use Rattle.sc_papers.specs.StudentRow.{positions_in, row_of}
+use Rattle.sc_papers.specs.Representation.{IsSound, AreKept, AreOfStudents, entry_in, market_of, rows_of}
+use Rattle.sc_papers.specs.StudentRow.{Row, positions_in, row_of}
 use Rattle.sc_papers.specs.Verdict.{changed_student, without_student}
 use Rattle.sc_papers.specs.WellFormed.{IsProper, IsShort, WellFormed}
 use Rattle.sc_papers.specs.declared.flat_papers.FlatPapers.TheInside.{Inside}
@@ -113,6 +117,16 @@ put-known_student m i at student q found old new others of_students known =
 pub room-left : (found : Bool) (rows left kept stay before after : ℕ) → left + 1 ≡ rows → stay + cond found 1 0 ≡ kept → before ≤ after → rows ≤ kept + before → left ≤ stay + after
 room-left true rows left kept stay before after one fewer more room = omega (arith, one, fewer, more, room)
 room-left false rows left kept stay before after one fewer more room = omega (arith, one, fewer, more, room)
+
+-- one row less is left
+pub rows-left : (old : Inside) (i place : ℕ) (left : List Row) → IsSound old → Some place ≡ position (nat_eq i) old.numbers → left ≡ remove old.rows.items place
+    → length left + 1 ≡ length old.rows.items
+rows-left old i place left sound found rows =
+    let m = market_of old in
+    let within = (position-Some (nat_eq i) old.numbers place 0 (sym found)).0 in
+    let low : place < length old.rows.items =
+    omega (arith, within, ap length sound.numbers, length-keys_of m.students, length-map old.rows.items (entry_in (keys_of old.schools.entries) old.siblings.entries)) in
+    omega (arith, ap length rows, length-remove old.rows.items place low)
 
 -- a student goes, and with them what stands at their position
 module _ (old new : Inside) (i place : ℕ) (sound : IsSound old)

@@ -1,5 +1,5 @@
 -- What look-ups in the papers' tables give.
-use Rattle.std.proofs.Common.{◌≡◌, ℕ, ◌<◌, nat_eq, Bool, List, [], ◌∷◌, get_or, length, map, inl, inr, Option, Some, None, refl, sym, ap, arith, ◌∙◌, cond, false, true, is_some, position}
+use Rattle.std.proofs.Common.{◌≡◌, ℕ, nat_eq, Bool, List, [], ◌∷◌, get_or, length, map, inl, inr, Option, Some, None, refl, sym, ap, arith, ◌∙◌, cond, false, true, is_some, position}
 use Rattle.std.specs.Prelude.{◌==◌, ◌&&◌, ◌||◌, ◌-◌, nat_lt, if◌then◌else◌}
 use Rattle.std.specs.List.{slice_get, list_any}
 use Rattle.sc_lottery.specs.Draw.{draw}
@@ -12,13 +12,12 @@ use Rattle.sc_papers.specs.declared.records.School.{School}
 use Rattle.sc_papers.specs.declared.records.Student.{Student}
 use Rattle.std.specs.Map.{keys_of, lookup}
 use Rattle.std.specs.Option.{option_map, option_map_or, option_and_then, option_eq}
-use Rattle.std.proofs.lemmas.Bool.{and_right, cases_Bool, ltb-true}
+use Rattle.std.proofs.lemmas.Bool.{and_right, cases_Bool}
 use Rattle.std.proofs.lemmas.Bool.Decides.{nat_tests}
 use Rattle.std.proofs.lemmas.Cmp.{nat_eq_equiv}
-use Rattle.std.proofs.lemmas.List.{length-map}
 use Rattle.std.proofs.lemmas.Map.Entries.{lookup_from_place}
 use Rattle.indexmap.proofs.MapLemmas.{some_index}
-use Rattle.std.proofs.lemmas.Option.{same_Some, slice_get-get_or, slice_get-map, slice_get_read, slice_get_within, get_or_from_slice_get}
+use Rattle.std.proofs.lemmas.Option.{same_Some, slice_get-map, slice_get_within, get_or_from_slice_get}
 use Rattle.sc_papers.proofs.Positions.{position-there}
 
 -- the number of the entry at a place
@@ -93,10 +92,6 @@ some-sibling s (t ∷ u ∷ rest) =
     let more : nat_lt 1 (length (t ∷ u ∷ rest)) ≡ true = grind (arith, nat_tests) in
     elim (cases_Bool (t == s)) [ inl same ↦ rw same refl | inr other ↦ rw (other, more) refl ]
 
--- what a read of the rows gives
-pub row-read : (rows : List Row) (place : ℕ) (row : Row) → true ≡ nat_lt place (length rows) → row ≡ get_or rows place row → slice_get rows place ≡ Some row
-row-read rows place row within is = slice_get_read rows (length rows) place row refl (ltb-true place (length rows) (sym within)) is
-
 -- the numbers of the rows are the students', in their order
 pub number-there : (m : Market) (table : List (Option ℕ)) (rows : List Row) (place : ℕ) → rows ≡ rows_of m.seed (zone_at m) table m.students
     → option_map (λ (r : Row). r.number) (slice_get rows place) ≡ slice_get (students_of m) place
@@ -109,12 +104,6 @@ number-there m table rows place are =
     go : (o : Option (ℕ × Student)) → option_map (λ (r : Row). r.number) (option_map (λ e. row_of (zone_at m) table e.0 (draw m.seed e.0) e.1) o) ≡ option_map (λ e. e.0) o
     go None = refl
     go (Some e) = refl
-
--- the row of a student of the papers is read at the student's position
-pub row-indexed : (m : Market) (table : List (Option ℕ)) (rows : List Row) (place : ℕ) (row : Row) → rows ≡ rows_of m.seed (zone_at m) table m.students
-    → place < length m.students → row ≡ get_or rows place row → slice_get rows place ≡ Some row
-row-indexed m table rows place row are low is =
-    slice_get-get_or rows place row (omega (arith, low, ap length are, length-map m.students (λ e. row_of (zone_at m) table e.0 (draw m.seed e.0) e.1))) ∙ ap Some (sym is)
 
 -- a row at a place, and the student whose row it is
 module _ (m : Market) (table : List (Option ℕ)) (rows : List Row) (place : ℕ) (row : Row) (well : WellFormed m) (are : rows ≡ rows_of m.seed (zone_at m) table m.students) (here : slice_get rows place ≡ Some row) where

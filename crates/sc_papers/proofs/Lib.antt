@@ -46,4 +46,6 @@ pub mod Inverses
 pub mod Weaving
 pub mod EntryOrder
 pub mod NumberTable
+pub mod Slots
 pub mod RecordSlots
+pub mod StudentRows

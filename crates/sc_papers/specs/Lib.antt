@@ -20,6 +20,8 @@ pub mod Chain
 pub mod Placed
 pub mod Progress
 pub mod Records
+pub mod Slots
+pub mod StudentRows
 pub mod Reordering
 pub mod EntryOrder
 pub mod Interleaving

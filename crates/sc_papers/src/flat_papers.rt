@@ -9,16 +9,18 @@ mod keys;
 mod number_table;
 pub(crate) mod numbers;
 pub(crate) mod order;
+mod rows;
 
 use crate::classed_choice::ClassedChoice;
 use crate::flat_papers::numbers::{Finding, Numbers};
+use crate::flat_papers::rows::StudentRows;
+use crate::limits::MOST_STUDENTS;
 use crate::position_list::PositionList;
 use crate::records::School;
 use crate::school_no::SchoolNo;
 use crate::school_positions::SchoolPositions;
 use crate::seats::Seats;
 use crate::seeded_hash::SeededHash;
-use crate::student_row::StudentRow;
 use indexmap::IndexMap;
 use sc_lottery::{Draws, Seed, StudentNumber};
 use std::alloc::{AllocError, Global};
@@ -37,7 +39,7 @@ pub struct FlatPapers {
     numbers: Numbers,
     // What a proposal reads of each student, in order of entry: so a key costs no block of the cipher, nor a look-up
     // where there is one sibling at most, and a choice no look-up.
-    rows: Vec<StudentRow>,
+    rows: StudentRows,
     // Where the schools of the siblings stand of students who have more than one. There is room for those of all, so that
     // a correction takes no memory.
     siblings: IndexMap<StudentNumber, PositionList, SeededHash>,
@@ -66,12 +68,6 @@ impl Model for FlatPapers {
     ghost view = { market_of };
 
     ghost invariant = { IsSound };
-}
-
-fn copy_rows(rows: &Vec<StudentRow>) -> Result<Vec<StudentRow>, AllocError>
-    ensures { IfOk result (λ copy. copy.items ≡ rows.now.items) }
-{
-    rows.clone()
 }
 
 /// An equal table, with room for so many students more.
@@ -128,17 +124,17 @@ impl FlatPapers {
             schools: IndexMap::with_hasher(alloc, SeededHash::new(seed)),
             positions: SchoolPositions::new(alloc),
             numbers: Numbers::new(finding, alloc, SeededHash::new(seed)),
-            rows: Vec::new(alloc),
+            rows: StudentRows::new(finding, alloc),
             siblings: IndexMap::with_hasher(alloc, SeededHash::new(seed)),
         }
     }
 
-    /// The same papers with a table of the students' numbers, for papers that are amended, or the error of a refused
-    /// growth.
+    /// The same papers with a table of the students' numbers and an order of their rows, for papers that are amended, or
+    /// the error of a refused growth.
     pub(crate) fn with_table(mut self) -> Result<Self, AllocError>
         ensures { IfOk result (λ papers. papers ≡ self) }
     {
-        match self.numbers.make_table() {
+        match self.make_tables() {
             Ok(()) => Ok(self),
             Err(refused) => {
                 drop(self);
@@ -147,12 +143,22 @@ impl FlatPapers {
         }
     }
 
+    /// Makes a table of the students' numbers and an order of their rows. The papers stay, also where the growth is refused.
+    fn make_tables(&mut self) -> Result<(), AllocError>
+        ensures { self.new ≡ self.old }
+    {
+        // This call tells that the papers are within their limits, so a slot has 32 bits.
+        prove!(self.students_len() <= MOST_STUDENTS);
+        self.numbers.make_table()?;
+        self.rows.make_order()
+    }
+
     /// Equal papers, or the error of a refused growth. One pass over the schools and the students; no
     /// draw is made.
     pub(crate) fn copy(&self) -> Result<Self, AllocError>
         ensures { IfOk result (λ copy. copy ≡ self.now) }
     {
-        let rows = copy_rows(&self.rows)?;
+        let rows = self.rows.copy()?;
         let siblings = copy_siblings(&self.siblings, self.rows.len())?;
         let positions = self.positions.copy()?;
         let schools = copy_schools(&self.schools)?;
@@ -169,7 +175,7 @@ impl FlatPapers {
 
     /// What the papers take their memory from.
     pub(crate) fn allocator(&self) -> Global {
-        *self.rows.allocator()
+        self.rows.allocator()
     }
 
     /// The seed of the lottery.

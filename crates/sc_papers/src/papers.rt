@@ -6,7 +6,8 @@ ghost use Rattle.sc_papers.specs.Change.{ChangesTo};
 ghost use Rattle.sc_papers.specs.Entry.{MayEnterAt};
 ghost use Rattle.sc_papers.specs.Market.{choices_of, continuing_of, seats_of, schools_of, siblings_of, student_at, student_of, students_of, zone_of};
 ghost use Rattle.sc_papers.specs.Placed.{schools_at};
-ghost use Rattle.sc_papers.specs.Records.{in_order, AreRecords, AreSlots};
+ghost use Rattle.sc_papers.specs.Records.{no_record, AreRecords};
+ghost use Rattle.sc_papers.specs.Slots.{in_order, AreSlots};
 ghost use Rattle.sc_papers.specs.Verdict.{first_of, objections_to_add, objections_to_close, objections_to_correct, objections_to_enter, objections_to_rerank, school_verdict, with_choices, with_circumstances, with_school, with_seats, with_student, without_student, IsRefusal, IsSchoolRefusal};
 ghost use Rattle.sc_papers.specs.EntryOrder.{with_moved_student, with_swapped_students};
 
@@ -17,7 +18,7 @@ use crate::flat_papers::numbers::Finding;
 use crate::flat_papers::order::{move_item, swap_items};
 use crate::limits::{LONGEST_LIST, MOST_STUDENTS};
 use crate::position_list::PositionList;
-use crate::record_slots::{first_slots, redirect};
+use crate::record_slots::{first_slots, remove_slotted};
 use crate::recording::{records_of, replace_circumstances};
 use crate::records::Student;
 use crate::school_list::SchoolList;
@@ -59,12 +60,13 @@ impl Model for Papers {
     ghost Value = { Market };
 
     ghost use Rattle.std.specs.Prelude.{length};
-    ghost use Rattle.sc_papers.specs.Records.{in_order, AreRecords, AreSlots};
+    ghost use Rattle.sc_papers.specs.Records.{no_record, AreRecords};
+    ghost use Rattle.sc_papers.specs.Slots.{in_order, AreSlots};
 
     ghost view = { λ p. p.flat };
 
     ghost invariant = { λ p. AreSlots p.slots.items (length p.records.items)
-        × AreRecords p.flat (in_order p.slots.items p.records.items) };
+        × AreRecords p.flat (in_order no_record p.slots.items p.records.items) };
 }
 
 impl Deref for Papers {
@@ -93,7 +95,7 @@ fn copy_records(
 /// Records of all students, and the slots in which they lie.
 fn recorded(papers: &FlatPapers) -> Result<(Vec<u32>, Vec<Student>), AllocError>
     ensures slots { IfOk result (λ made. AreSlots made.0.items (length made.1.items)) }
-    ensures records { IfOk result (λ made. AreRecords papers.now (in_order made.0.items made.1.items)) }
+    ensures records { IfOk result (λ made. AreRecords papers.now (in_order no_record made.0.items made.1.items)) }
 {
     let slots = first_slots(papers.allocator(), papers.students_len())?;
     Ok((slots, records_of(papers)?))
@@ -344,17 +346,15 @@ impl Papers {
     }
 
     /// Removes a student, and the student's draw; the number of nobody changes nothing. The others keep their
-    /// order and their draws. It takes no memory and cannot fail. The cost is that of the shift behind the
-    /// student, and of a pass over the slots of the records where the student's is not the last one.
+    /// order and their draws. It takes no memory and cannot fail. The cost is that of a few passes over four bytes a
+    /// student, and of none for the last student where nobody has gone or moved since the student entered.
     pub fn withdraw(&mut self, student: StudentNumber)
         ensures { self.new ≡ without_student self.old student }
     {
         // This call tells that the papers are within their limits, so a slot has 32 bits.
         prove!(self.flat.students_len() <= MOST_STUDENTS);
         if let Some(position) = self.flat.withdraw(student) {
-            let free = self.slots.remove(position);
-            let _ = self.records.swap_remove(free as usize);
-            redirect(&mut self.slots, self.records.len() as u32, free);
+            remove_slotted(&mut self.slots, &mut self.records, position);
         }
     }
 }

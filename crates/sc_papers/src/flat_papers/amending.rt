@@ -23,10 +23,11 @@ impl FlatPapers {
         requires short { IsShort student.now }
         ensures { self.new ≡ changed_student self.old number (λ _. student.now) }
     {
-        let draw = self.rows[at].draw();
+        let draw = self.rows.at(at).draw();
         let positions = PositionList::new(&self.positions, student.choices.as_slice());
         let choices = self.classed_list(student, &positions);
-        self.rows[at] = StudentRow::new(number, draw, &choices, student);
+        self.rows
+            .put(at, StudentRow::new(number, draw, &choices, student));
         // This call tells that no number stands twice.
         let _ = self.siblings.len();
         keep_siblings(&mut self.siblings, &self.positions, number, student);

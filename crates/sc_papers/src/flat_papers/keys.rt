@@ -177,7 +177,7 @@ impl FlatPapers {
         requires { student < length self.now.students }
         ensures { IsRowAt self.now student result.now }
     {
-        &self.rows[student]
+        self.rows.at(student)
     }
 
     /// Where the schools of the siblings of the student at a position of the order of entry, from 0, stand, who has more
@@ -188,7 +188,7 @@ impl FlatPapers {
         ensures { map Some result.now ≡ map (λ s. position (nat_eq s) (schools_of self.now))
             (siblings_of self.now (student_at self.now student)) }
     {
-        let Some(kept) = self.siblings.get(&self.rows[student].number()) else {
+        let Some(kept) = self.siblings.get(&self.rows.at(student).number()) else {
             unreachable!()
         };
         kept.as_slice()

@@ -41,7 +41,7 @@ impl FlatPapers {
         ensures { self.new ≡ with_moved_student self.old from to }
     {
         self.numbers.move_index(from, to);
-        move_item(&mut self.rows, from, to);
+        self.rows.move_index(from, to);
     }
 
     /// Changes the students at two positions of the order of entry for one another, each from 0; all others stay where
@@ -52,19 +52,21 @@ impl FlatPapers {
         ensures { self.new ≡ with_swapped_students self.old a b }
     {
         self.numbers.swap(a, b);
-        swap_items(&mut self.rows, a, b);
+        self.rows.swap(a, b);
     }
 
     /// Removes a student, and the student's draw, and answers the position of the order of entry at which the student
     /// stood; the number of nobody changes nothing. The others keep their order and their draws. It takes no memory and
-    /// cannot fail. The cost is that of the shift behind the student, and so none for the last one.
+    /// cannot fail. The cost is that of the shifts behind the student, with an order of the rows of four bytes a student
+    /// each, and of passes over as much that note who has moved up and which row. The last student costs none, where
+    /// nobody has gone or moved since the student entered.
     pub(crate) fn withdraw(&mut self, student: StudentNumber) -> Option<usize>
         ensures left { self.new ≡ without_student self.old student }
         ensures position { result ≡ position (nat_eq student) (students_of self.old) }
     {
         let position = self.numbers.position(student)?;
         self.numbers.remove(position);
-        let _ = self.rows.remove(position);
+        self.rows.remove(position);
         let _ = self.siblings.swap_remove(&student);
         Some(position)
     }

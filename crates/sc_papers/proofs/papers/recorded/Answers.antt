@@ -1,8 +1,9 @@
 use Rattle.std.proofs.Common.{◌≡◌, length, ap, subst, sym, ◌∙◌}
 use Rattle.std.specs.List.{range_with_len}
 use Rattle.std.proofs.lemmas.List.{length-map}
-use Rattle.sc_papers.specs.Records.{in_order, AreSlots}
-use Rattle.sc_papers.proofs.RecordSlots.{AreSlots-first, in_order-first}
+use Rattle.sc_papers.specs.Records.{no_record}
+use Rattle.sc_papers.specs.Slots.{in_order, AreSlots}
+use Rattle.sc_papers.proofs.Slots.{AreSlots-first, in_order-first}
 use Rattle.sc_papers.proofs.papers.recorded.Goals as goal
 
 pub returns-clause-slots : goal.returns-clause-slots
@@ -17,4 +18,4 @@ returns-clause-records c =
     let records = c.in_ok-records_of.field-0.items in
     let many : c.students_len.result ≡ length records =
     c.students_len.ensures.count ∙ sym (ap length c.in_ok-records_of.ensures ∙ length-map c.args.papers.now.students (λ e. e.1)) in
-    ap (λ slots. in_order slots records) (c.in_ok-slots.ensures ∙ ap (range_with_len 0) many) ∙ in_order-first records ∙ c.in_ok-records_of.ensures
+    ap (λ slots. in_order no_record slots records) (c.in_ok-slots.ensures ∙ ap (range_with_len 0) many) ∙ in_order-first no_record records ∙ c.in_ok-records_of.ensures

@@ -1,5 +1,5 @@
 use Rattle.std.proofs.Common.{◌∷◌, ◌++◌, [], ap, sym, ◌∙◌}
-use Rattle.sc_papers.proofs.RecordSlots.{first-more}
+use Rattle.sc_papers.proofs.Slots.{first-more}
 use Rattle.sc_papers.proofs.record_slots.first_slots.Goals as goal
 
 pub loop-slot-preserved : goal.loop-slot-preserved

@@ -2,8 +2,8 @@ use Rattle.std.proofs.Common.{◌<◌, get_or, length, ap, ◌∙◌, arith}
 use Rattle.std.specs.Prelude.{slice_set}
 use Rattle.std.proofs.lemmas.List.{get_or_default}
 use Rattle.std.proofs.lemmas.List.Edits.{map_over_more}
-use Rattle.sc_papers.specs.Records.{new_slot}
-use Rattle.sc_papers.proofs.RecordSlots.{unmoved}
+use Rattle.sc_papers.specs.Slots.{new_slot}
+use Rattle.sc_papers.proofs.Slots.{unmoved}
 use Rattle.sc_papers.proofs.record_slots.redirect.Goals as goal
 
 pub returns-then-last-free : goal.returns-then-last-free

@@ -1,5 +1,5 @@
 use Rattle.std.proofs.Common.{◌≡◌, ◌++◌, drop, map, take}
-use Rattle.sc_papers.specs.Records.{new_slot}
+use Rattle.sc_papers.specs.Slots.{new_slot}
 use Rattle.sc_papers.proofs.record_slots.redirect.Given as goal
 
 abbrev pub invariant-loop-slot : goal.invariant-loop-slot

@@ -6,7 +6,6 @@ use Rattle.sc_papers.specs.Market.{Market, students_of, zone_at}
 use Rattle.sc_papers.specs.Representation.{market_of, rows_of}
 use Rattle.sc_papers.specs.StudentRow.{Row, row_of}
 use Rattle.sc_papers.specs.declared.records.Student.{Student}
-use Rattle.sc_papers.proofs.Keys.{row-read}
 use Rattle.sc_papers.proofs.flat_papers.FlatPapers.draw_at.Goals as goal
 
 -- the draws of the rows are those of the students, in their order
@@ -24,9 +23,6 @@ draw-there m table rows place are =
 
 pub returns : goal.returns
 returns c =
-    let rows = c.deref.result.now in
-    let row = c.in_ok-row.row.now in
-    let read = c.in_ok-row.ensures.lookup in
-    ap Some c.draw.ensures ∙ sym (ap (option_map (λ (r : Row). r.draw)) (row-read rows c.args.position row read.0 read.1))
-    ∙ draw-there (market_of c.self.inside) c.self.inside.positions rows c.args.position (c.deref.ensures.value ∙ c.self.invariant.rows)
+    ap Some c.draw.ensures ∙ sym (ap (option_map (λ (r : Row). r.draw)) (sym c.in_ok-row.ensures))
+    ∙ draw-there (market_of c.self.inside) c.self.inside.positions c.self.inside.rows.items c.args.position c.self.invariant.rows
     ∙ ap (λ (m : Market). option_map (draw m.seed) (slice_get (students_of m) c.args.position)) c.self.view_is

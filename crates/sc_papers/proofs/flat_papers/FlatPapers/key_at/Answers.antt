@@ -4,17 +4,14 @@ use Rattle.sc_papers.specs.Key.{class_by, has_sibling_at, key_at, same_zone}
 use Rattle.sc_papers.specs.Market.{Market, schools_of, student_at}
 use Rattle.sc_papers.specs.StudentRow.{IsRowAt}
 use Rattle.sc_papers.proofs.ChoicePositions.{row-is}
-use Rattle.sc_papers.proofs.Keys.{key-of_row, key-there, row-read}
+use Rattle.sc_papers.proofs.Keys.{key-of_row, key-there}
 use Rattle.sc_papers.proofs.Positions.{school-place_position}
 use Rattle.sc_papers.proofs.flat_papers.FlatPapers.key_at.Goals as goal
 
 pub returns : goal.returns
 returns c =
     let m = market_of c.self.inside in
-    let rows = c.deref.result.now in
     let row = c.in_ok-row.row.now in
-    let read = c.in_ok-row.ensures.lookup in
-    let here = row-read rows c.args.student row read.0 read.1 in
     let school = c.in_ok-name.ensures in
     let name = c.in_ok-name.name.now in
     let zone = c.in_ok-name.entry.now.zone in
@@ -22,17 +19,15 @@ returns c =
     let sibling = c.has_sibling_at-sibling.ensures ∙ sym (ap (λ (n : Market). has_sibling_at n (student_at n c.args.student) name) c.self.view_is) in
     let class_is = c.class_of-class.ensures ∙ (λ t. class_by (continues t) c.has_sibling_at-sibling.result (same_zone (c.zone.ensures t) zone)) in
     (λ t. Some (record { class = c.class_of-class.result; draw = c.draw.ensures t; student = c.number.ensures t }))
-    ∙ key-of_row m c.self.inside.positions rows c.args.student row c.self.invariant.well_formed (c.deref.ensures.value ∙ c.self.invariant.rows) here
+    ∙ key-of_row m c.self.inside.positions c.self.inside.rows.items c.args.student row c.self.invariant.well_formed c.self.invariant.rows (sym c.in_ok-row.ensures)
     c.args.school name c.class_of-class.result c.has_sibling_at-sibling.result c.in_ok-name.entry.now (sym school.entry) school.value sibling class_is
     ∙ ap (λ (n : Market). key_at n c.args.student c.args.school) c.self.view_is
 
 pub has_sibling_at-sibling-requires-clause-row : goal.has_sibling_at-sibling-requires-clause-row
 has_sibling_at-sibling-requires-clause-row c =
     let m = market_of c.self.inside in
-    let read = c.in_ok-row.ensures.lookup in
-    let here = row-read c.deref.result.now c.args.student c.in_ok-row.row.now read.0 read.1 in
     subst (λ (n : Market). IsRowAt n c.args.student c.in_ok-row.row.now) c.self.view_is
-    (row-is m c.self.inside.positions c.deref.result.now c.args.student c.in_ok-row.row.now c.self.invariant.well_formed c.self.invariant.positions (c.deref.ensures.value ∙ c.self.invariant.rows) here)
+    (row-is m c.self.inside.positions c.self.inside.rows.items c.args.student c.in_ok-row.row.now c.self.invariant.well_formed c.self.invariant.positions c.self.invariant.rows (sym c.in_ok-row.ensures))
 
 pub has_sibling_at-sibling-requires-clause-school : goal.has_sibling_at-sibling-requires-clause-school
 has_sibling_at-sibling-requires-clause-school c =

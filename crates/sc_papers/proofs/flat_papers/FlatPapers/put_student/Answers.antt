@@ -1,5 +1,6 @@
 use Rattle.std.proofs.lemmas.List.{length-set}
-use Rattle.std.proofs.Common.{List, Some, arith, map, nat_eq, position, refl, sym, ap, subst, ◌∙◌, slice_set}
+use Rattle.std.proofs.lemmas.Option.{get_or_from_slice_get}
+use Rattle.std.proofs.Common.{List, Some, arith, length, map, nat_eq, position, refl, sym, ap, subst, ◌∙◌, slice_set}
 use Rattle.sc_papers.specs.Market.{Market, students_of, zone_at}
 use Rattle.sc_papers.specs.Representation.{market_of}
 use Rattle.sc_papers.specs.Classed.{Classed}
@@ -19,7 +20,7 @@ invariant_of-self c =
     let i = c.args.number in
     let student = c.args.student.now in
     let found = sym (ap (λ (m : Market). position (nat_eq i) (students_of m)) c.self.view_is ∙ c.requires.stands) in
-    let drawn = draw-there c.self.inside.lottery (zone_at (market_of c.self.inside)) c.self.inside.positions (market_of c.self.inside).students c.self.inside.rows.items c.args.at i c.index.result.now c.self.invariant.rows found c.index.ensures in
+    let drawn = draw-there c.self.inside.lottery (zone_at (market_of c.self.inside)) c.self.inside.positions (market_of c.self.inside).students c.self.inside.rows.items c.args.at i c.at.result.now c.self.invariant.rows found (sym (get_or_from_slice_get c.self.inside.rows.items c.args.at c.at.result.now c.at.result.now c.at.ensures)) in
     let m = market_of c.self.inside in
     let proper = subst (λ (n : Market). IsProper n student) (sym c.self.view_is) c.requires.proper in
     let made = c.new.ensures
@@ -29,15 +30,15 @@ invariant_of-self c =
     proper.choices_known (c.new-positions.ensures ∙ ap (positions_in c.self.inside.positions) c.as_slice.ensures) made
     ∙ ap (λ d. row_of (zone_at m) c.self.inside.positions i d student) (c.draw-draw.ensures ∙ drawn) in
     IsSound-put_student c.self.inside _ i c.args.at student c.self.invariant (subst (λ (m : Market). IsProper m student) (sym c.self.view_is) c.requires.proper) c.requires.short
-    refl refl refl refl found (ap (slice_set c.self.inside.rows.items c.args.at) row) c.keep_siblings.ensures.others c.keep_siblings.ensures.own
-    (omega (arith, c.keep_siblings.ensures.room, c.self.invariant.room, length-set c.self.inside.rows.items c.args.at c.new.result))
+    refl refl refl refl found (c.put.ensures ∙ ap (slice_set c.self.inside.rows.items c.args.at) row) c.keep_siblings.ensures.others c.keep_siblings.ensures.own
+    (omega (arith, c.keep_siblings.ensures.room, c.self.invariant.room, ap length c.put.ensures, length-set c.self.inside.rows.items c.args.at c.new.result))
 
 pub returns : goal.returns
 returns c =
     let i = c.args.number in
     let student = c.args.student.now in
     let found = sym (ap (λ (m : Market). position (nat_eq i) (students_of m)) c.self.view_is ∙ c.requires.stands) in
-    let drawn = draw-there c.self.inside.lottery (zone_at (market_of c.self.inside)) c.self.inside.positions (market_of c.self.inside).students c.self.inside.rows.items c.args.at i c.index.result.now c.self.invariant.rows found c.index.ensures in
+    let drawn = draw-there c.self.inside.lottery (zone_at (market_of c.self.inside)) c.self.inside.positions (market_of c.self.inside).students c.self.inside.rows.items c.args.at i c.at.result.now c.self.invariant.rows found (sym (get_or_from_slice_get c.self.inside.rows.items c.args.at c.at.result.now c.at.result.now c.at.ensures)) in
     let m = market_of c.self.inside in
     let proper = subst (λ (n : Market). IsProper n student) (sym c.self.view_is) c.requires.proper in
     let made = c.new.ensures
@@ -47,10 +48,10 @@ returns c =
     proper.choices_known (c.new-positions.ensures ∙ ap (positions_in c.self.inside.positions) c.as_slice.ensures) made
     ∙ ap (λ d. row_of (zone_at m) c.self.inside.positions i d student) (c.draw-draw.ensures ∙ drawn) in
     market_of-put_student c.self.inside
-    (record c.self.inside { rows = Rattle.std.specs.Vec.with_item c.self.inside.rows c.args.at c.new.result; siblings = c.keep_siblings.new.kept })
+    (record c.self.inside { rows = c.put.new.self; siblings = c.keep_siblings.new.kept })
     i c.args.at student c.self.invariant (subst (λ (m : Market). IsProper m student) (sym c.self.view_is) c.requires.proper)
-    c.requires.short refl refl refl refl found (ap (slice_set c.self.inside.rows.items c.args.at) row) c.keep_siblings.ensures.others c.keep_siblings.ensures.own
-    (omega (arith, c.keep_siblings.ensures.room, c.self.invariant.room, length-set c.self.inside.rows.items c.args.at c.new.result))
+    c.requires.short refl refl refl refl found (c.put.ensures ∙ ap (slice_set c.self.inside.rows.items c.args.at) row) c.keep_siblings.ensures.others c.keep_siblings.ensures.own
+    (omega (arith, c.keep_siblings.ensures.room, c.self.invariant.room, ap length c.put.ensures, length-set c.self.inside.rows.items c.args.at c.new.result))
     ∙ put-known (market_of c.self.inside) i c.args.at student (sym found)
     ∙ ap (λ (m : Market). changed_student m i (λ before. student)) c.self.view_is
 

@@ -1,8 +1,8 @@
-use Rattle.std.proofs.Common.{nat_eq, is_some, length, position, refl, ap, arith, ◌∙◌}
+use Rattle.std.proofs.Common.{nat_eq, is_some, length, position, refl, ap, ◌∙◌}
 use Rattle.indexmap.specs.IndexMap.{index_map_len, spare}
 use Rattle.sc_papers.specs.Market.{Market, students_of}
 use Rattle.sc_papers.specs.Verdict.{without_student}
-use Rattle.sc_papers.proofs.ChangingRepresentation.{IsSound-withdrawn, market_of-withdrawn, room-left, without-absent}
+use Rattle.sc_papers.proofs.ChangingRepresentation.{IsSound-withdrawn, market_of-withdrawn, room-left, rows-left, without-absent}
 use Rattle.sc_papers.proofs.flat_papers.FlatPapers.withdraw.Goals as goal
 
 pub returns-in_err-position-clause-left : goal.returns-in_err-position-clause-left
@@ -13,16 +13,16 @@ returns-in_err-position-clause-left c =
 pub invariant_of-self : goal.invariant_of-self
 invariant_of-self c =
     IsSound-withdrawn c.self.inside _ c.args.student c.in_ok-position.position c.self.invariant refl refl refl c.in_ok-position.ensures c.remove.ensures
-    c.remove-2.ensures.items c.swap_remove.ensures.updates.2 c.swap_remove.ensures.updates.1
+    c.remove-2.ensures c.swap_remove.ensures.updates.2 c.swap_remove.ensures.updates.1
     (room-left (is_some c.swap_remove.result) (length c.self.inside.rows.items) (length c.remove-2.new.self.items) (index_map_len c.self.inside.siblings) (index_map_len c.swap_remove.new.self)
-    (spare c.self.inside.siblings) (spare c.swap_remove.new.self) (omega (arith, c.remove-2.ensures.len, c.remove-2.new.self.ok, c.self.inside.rows.ok)) c.swap_remove.ensures.len c.swap_remove.ensures.room.0 c.self.invariant.room)
+    (spare c.self.inside.siblings) (spare c.swap_remove.new.self) (rows-left c.self.inside c.args.student c.in_ok-position.position c.remove-2.new.self.items c.self.invariant c.in_ok-position.ensures c.remove-2.ensures) c.swap_remove.ensures.len c.swap_remove.ensures.room.0 c.self.invariant.room)
 
 pub returns-clause-left : goal.returns-clause-left
 returns-clause-left c =
     market_of-withdrawn c.self.inside
     (record { lottery = c.self.inside.lottery; schools = c.self.inside.schools; positions = c.self.inside.positions; numbers = c.remove.new.self; rows = c.remove-2.new.self; siblings = c.swap_remove.new.self })
     c.args.student c.in_ok-position.position c.self.invariant refl refl refl c.in_ok-position.ensures c.remove.ensures
-    c.remove-2.ensures.items c.swap_remove.ensures.updates.2 c.swap_remove.ensures.updates.1
+    c.remove-2.ensures c.swap_remove.ensures.updates.2 c.swap_remove.ensures.updates.1
     (room-left (is_some c.swap_remove.result) (length c.self.inside.rows.items) (length c.remove-2.new.self.items) (index_map_len c.self.inside.siblings) (index_map_len c.swap_remove.new.self)
-    (spare c.self.inside.siblings) (spare c.swap_remove.new.self) (omega (arith, c.remove-2.ensures.len, c.remove-2.new.self.ok, c.self.inside.rows.ok)) c.swap_remove.ensures.len c.swap_remove.ensures.room.0 c.self.invariant.room)
+    (spare c.self.inside.siblings) (spare c.swap_remove.new.self) (rows-left c.self.inside c.args.student c.in_ok-position.position c.remove-2.new.self.items c.self.invariant c.in_ok-position.ensures c.remove-2.ensures) c.swap_remove.ensures.len c.swap_remove.ensures.room.0 c.self.invariant.room)
     ∙ ap (λ (m : Market). without_student m c.args.student) c.self.view_is

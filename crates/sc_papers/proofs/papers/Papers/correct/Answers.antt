@@ -1,12 +1,14 @@
 use Rattle.std.proofs.Common.{ℕ, List, ◌∷◌, [], Option, ap, arith, length, slice_set, subst, sym, ◌∙◌}
 use Rattle.sc_papers.specs.Market.{Market, continuing_of, siblings_of, zone_of}
-use Rattle.sc_papers.specs.Records.{in_order, AreRecords}
+use Rattle.sc_papers.specs.Records.{no_record, AreRecords}
+use Rattle.sc_papers.specs.Slots.{in_order}
 use Rattle.sc_papers.specs.Verdict.{changed_student, first_of, objections_to_correct, too_long, twice_in, unknown_in, unknown_school, with_circumstances}
 use Rattle.sc_papers.specs.WellFormed.{IsProper, IsShort}
 use Rattle.sc_papers.specs.declared.records.Student.{Student}
 use Rattle.sc_papers.proofs.Changing.{All-found, IsProper-corrected, IsShort-corrected}
 use Rattle.sc_papers.proofs.Recorded.{changed-known, no-student}
-use Rattle.sc_papers.proofs.RecordSlots.{slot-low, slotted-low, slotted-put, slotted-read}
+use Rattle.sc_papers.proofs.RecordSlots.{slotted-low, slotted-put, slotted-read}
+use Rattle.sc_papers.proofs.Slots.{slot-low}
 use Rattle.sc_papers.proofs.TakingBack.{circumstances-found}
 use Rattle.sc_papers.proofs.papers.Papers.correct.Goals as goal
 
@@ -54,7 +56,7 @@ invariant_of-self c =
     let p = c.self.inside in
     let slot = c.index-slot.result.now in
     let put = slotted-put p.flat p.slots.items p.records.items c.args.number c.in-Some.position c.self.invariant.0 c.self.invariant.1 (sym c.in-Some.ensures) slot c.index-slot.ensures student in
-    (put.0, subst (λ (m : Market). AreRecords m (in_order p.slots.items (slice_set p.records.items slot student))) (sym c.put_student.ensures) put.1)
+    (put.0, subst (λ (m : Market). AreRecords m (in_order no_record p.slots.items (slice_set p.records.items slot student))) (sym c.put_student.ensures) put.1)
 
 pub returns-clause-new : goal.returns-clause-new
 returns-clause-new c =

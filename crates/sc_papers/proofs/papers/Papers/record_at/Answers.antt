@@ -2,7 +2,8 @@ use Rattle.std.proofs.Common.{◌≡◌, ◌<◌, ap, arith, get_or, length, sli
 use Rattle.std.specs.Option.{option_and_then}
 use Rattle.std.proofs.lemmas.Bool.{ltb-true}
 use Rattle.sc_papers.specs.Market.{Market, student_of, students_of}
-use Rattle.sc_papers.proofs.RecordSlots.{indexed-in_order, slot-low}
+use Rattle.sc_papers.specs.Records.{no_record}
+use Rattle.sc_papers.proofs.Slots.{indexed-in_order, slot-low}
 use Rattle.sc_papers.proofs.Recorded.{records-read}
 use Rattle.sc_papers.proofs.papers.Papers.record_at.Goals as goal
 
@@ -24,7 +25,7 @@ returns c =
     let read = c.in_ok-slot.ensures.lookup in
     let low : at < length p.slots.items = subst (λ xs. at < length xs) c.deref.ensures.value (ltb-true at (length c.deref.result.now) (sym read.0)) in
     let is : slot ≡ get_or p.slots.items at slot = read.1 ∙ ap (λ xs. get_or xs at slot) c.deref.ensures.value in
-    indexed-in_order p.slots.items p.records.items at slot c.index.result.now c.self.invariant.0 low is c.index.ensures
+    indexed-in_order no_record p.slots.items p.records.items at slot c.index.result.now c.self.invariant.0 low is c.index.ensures
     ∙ ap (λ rs. slice_get rs at) c.self.invariant.1
     ∙ records-read p.flat c.students_len.ensures.well_formed at
     ∙ ap (λ (m : Market). option_and_then (student_of m) (slice_get (students_of m) at)) c.self.view_is

@@ -1,12 +1,14 @@
 use Rattle.std.proofs.Common.{◌∷◌, ap, arith, length, slice_set, subst, sym, ◌∙◌}
 use Rattle.sc_papers.specs.Market.{Market, choices_of}
-use Rattle.sc_papers.specs.Records.{in_order, AreRecords}
+use Rattle.sc_papers.specs.Records.{no_record, AreRecords}
+use Rattle.sc_papers.specs.Slots.{in_order}
 use Rattle.sc_papers.specs.Verdict.{first_of, objections_to_list, no_choices, objections_to_rerank, with_choices}
 use Rattle.sc_papers.specs.WellFormed.{IsProper, IsShort}
 use Rattle.sc_papers.specs.declared.records.Student.{Student}
 use Rattle.sc_papers.proofs.Changing.{All-found, IsProper-reranked, IsShort-reranked}
 use Rattle.sc_papers.proofs.Recorded.{changed-known, no-student}
-use Rattle.sc_papers.proofs.RecordSlots.{slot-low, slotted-low, slotted-put, slotted-read}
+use Rattle.sc_papers.proofs.RecordSlots.{slotted-low, slotted-put, slotted-read}
+use Rattle.sc_papers.proofs.Slots.{slot-low}
 use Rattle.sc_papers.proofs.TakingBack.{choices-found}
 use Rattle.sc_papers.proofs.papers.Papers.rerank.Goals as goal
 
@@ -52,7 +54,7 @@ invariant_of-self c =
     let p = c.self.inside in
     let slot = c.index-slot.result.now in
     let put = slotted-put p.flat p.slots.items p.records.items c.args.number c.in-Some.position c.self.invariant.0 c.self.invariant.1 (sym c.in-Some.ensures) slot c.index-slot.ensures student in
-    (put.0, subst (λ (m : Market). AreRecords m (in_order p.slots.items (slice_set p.records.items slot student))) (sym c.put_student.ensures) put.1)
+    (put.0, subst (λ (m : Market). AreRecords m (in_order no_record p.slots.items (slice_set p.records.items slot student))) (sym c.put_student.ensures) put.1)
 
 pub returns-clause-new : goal.returns-clause-new
 returns-clause-new c =

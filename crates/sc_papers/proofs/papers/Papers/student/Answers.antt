@@ -1,7 +1,8 @@
 use Rattle.std.proofs.Common.{arith, length, ap, option_copied, sym, ◌∙◌}
 use Rattle.sc_papers.specs.Market.{Market, student_of}
 use Rattle.sc_papers.proofs.Recorded.{no-record}
-use Rattle.sc_papers.proofs.RecordSlots.{slot-low, slotted-low, slotted-read}
+use Rattle.sc_papers.proofs.RecordSlots.{slotted-low, slotted-read}
+use Rattle.sc_papers.proofs.Slots.{slot-low}
 use Rattle.sc_papers.proofs.papers.Papers.student.Goals as goal
 
 pub returns-in_err-position : goal.returns-in_err-position

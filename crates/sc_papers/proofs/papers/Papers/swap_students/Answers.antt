@@ -2,8 +2,10 @@ use Rattle.std.proofs.Common.{◌<◌, ap, arith, length, map, subst, swap, sym,
 use Rattle.std.proofs.lemmas.List.Edits.{length-swap}
 use Rattle.indexmap.proofs.ReorderLemmas.{map-swap}
 use Rattle.sc_papers.specs.Market.{Market}
-use Rattle.sc_papers.specs.Records.{AreSlots}
-use Rattle.sc_papers.proofs.RecordSlots.{in_order-swapped, slot-low, slots-many}
+use Rattle.sc_papers.specs.Records.{no_record}
+use Rattle.sc_papers.specs.Slots.{AreSlots}
+use Rattle.sc_papers.proofs.RecordSlots.{slots-many}
+use Rattle.sc_papers.proofs.Slots.{in_order-swapped, slot-low}
 use Rattle.sc_papers.proofs.papers.Papers.swap_students.Goals as goal
 
 pub index-slot_a-requires : goal.index-slot_a-requires
@@ -40,7 +42,7 @@ invariant_of-self c =
     let slot_b = c.index-slot_b.result.now in
     rw c.swap_items.ensures (
       subst (AreSlots p.slots.items) (sym (length-swap p.records.items slot_a slot_b)) c.self.invariant.0,
-      in_order-swapped p.slots.items p.records.items c.args.a c.args.b slot_a slot_b c.self.invariant.0 low_a low_b c.index-slot_a.ensures c.index-slot_b.ensures
+      in_order-swapped no_record p.slots.items p.records.items c.args.a c.args.b slot_a slot_b c.self.invariant.0 low_a low_b c.index-slot_a.ensures c.index-slot_b.ensures
           ∙ ap (λ rs. swap rs c.args.a c.args.b) c.self.invariant.1
           ∙ sym (map-swap (λ e. e.1) p.flat.students c.args.a c.args.b) ∙ sym (ap (λ (m : Market). map (λ e. e.1) m.students) c.swap_students.ensures),
     )
