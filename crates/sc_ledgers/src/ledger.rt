@@ -21,10 +21,10 @@ pub(crate) const NEVER: u32 = u32::MAX;
 const BLOCK: usize = 64;
 
 /// The turn of a label once the student at a position has left the papers: one behind theirs goes down by one.
-fn turn_without(turn: u32, position: usize) -> u32
+fn turn_without(turn: u32, position: u32) -> u32
     ensures { result ≡ kept_without position turn }
 {
-    if turn as usize > position && turn < NEVER {
+    if turn > position && turn < NEVER {
         turn - 1
     } else {
         turn
@@ -218,7 +218,7 @@ impl Ledger {
     }
 
     /// The turns behind a position go down by one, as the student there has left the papers. It takes no memory.
-    pub(crate) fn leave(&mut self, position: usize)
+    pub(crate) fn leave(&mut self, position: u32)
         ensures { self.new ≡ map (label_without position) self.old }
     {
         for turn in self.turns.iter_mut() {

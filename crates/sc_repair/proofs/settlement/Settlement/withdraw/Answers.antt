@@ -113,13 +113,18 @@ proposals_at-self-inside-requires-clause-ends c =
     let leaver = may before.After-strike in
     subst (λ p. AreEnds p (logs_in c.remove.new.self) c.leave-in-Ok.new.ledgers.ends) (sym c.deref-in-Ok.ensures) (left-ledgers leaver (has-left before.After-leave-in-Ok (settled before.In-Ok leaver))).ended
 
-pub leave-requires-in-Ok : goal.leave-requires-in-Ok
-leave-requires-in-Ok c =
-    let before = goal.at.leave-requires-in-Ok c in
+pub leave-requires-in-Ok-clause-within : goal.leave-requires-in-Ok-clause-within
+leave-requires-in-Ok-clause-within c =
+    let before = goal.at.leave-requires-in-Ok-clause-within c in
     let leaver = may before.After-strike in
     let anew = settled before.In-Ok leaver in
     let new = c.resettle-settled.new.segments in
     omega (arith, leaver-low leaver, anew.ended.one_each, length-map new (λ (chain : Chain). chain.rejections), ap (λ (xs : List ℕ). length xs) (anew.theirs ∙ c.self.invariant.theirs), length-map new (λ (chain : Chain). chain.student))
+
+pub leave-requires-in-Ok-clause-few : goal.leave-requires-in-Ok-clause-few
+leave-requires-in-Ok-clause-few c =
+    let leaver = may (goal.at.leave-requires-in-Ok-clause-few c).After-strike in
+    omega (arith, leaver-low leaver, length-students c.self.inside.papers, c.students_len.ensures.count, ap (λ (p : Market). length p.students) c.deref-4.ensures, c.if-prove.false)
 
 pub invariant_of-self-in-Ok : goal.invariant_of-self-in-Ok
 invariant_of-self-in-Ok c =
