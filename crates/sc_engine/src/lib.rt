@@ -10,4 +10,4 @@ mod round;
 mod settled;
 
 pub use round::Round;
-pub use settled::{Settled, SettledPlaces, settle, settle_by_first_keys};
+pub use settled::{Settled, SettledPlaces, settle, settle_places};

@@ -60,10 +60,10 @@ pub fn settle(alloc: Global, papers: &FlatPapers) -> Result<Settled, AllocError>
 
 /// Settles papers as `settle` does, to the same matching, and answers the school that each student has, if any, and the
 /// tallies of the schools, which their rolls tell. The students enter by their priority class at their first choice, and
-/// within a class by the first byte of their draw, so that fewer of them are put out again. The cost is a sort of numbers
-/// more; no log is kept, and no student is put into a table.
+/// within a class by the first byte of their draw, so that fewer of them are put out again. The cost is two passes over the
+/// students more; no log is kept, and no student is put into a table.
 #[tactic(auto, using(crate::proofs::Settling::settled_places))]
-pub fn settle_by_first_keys(alloc: Global, papers: &FlatPapers) -> Result<SettledPlaces, AllocError>
+pub fn settle_places(alloc: Global, papers: &FlatPapers) -> Result<SettledPlaces, AllocError>
     ensures { IfOk result (λ settled. AreSettledPlaces papers.now settled.places.items settled.tallies.items) }
 {
     let mut round: Round<HeapRoll> = Round::start(alloc, papers)?;

@@ -9,7 +9,7 @@ ghost use Rattle.sc_engine.specs.RoundView.{Fits, has_entered, SettlesFirst};
 use crate::comparing::same;
 use crate::given::{expect_said, papers_of, school, student};
 use sc_checkpoint::Standing;
-use sc_engine::{Round, Settled, settle, settle_by_first_keys};
+use sc_engine::{Round, Settled, settle, settle_places};
 use sc_markets::{
     FIVE_STUDENTS, Files, MARKET_A, MARKET_B, MARKET_B_AND_NEWCOMER, TWO_STUDENTS, log_text,
 };
@@ -92,7 +92,7 @@ fn a_newcomer(rt: HostRuntime) {
 
 /// The outcome by the keys at the first choices.
 fn expect_placed(rt: &impl Abort, alloc: Global, papers: &FlatPapers, want: &str) {
-    let settled = settle_by_first_keys(alloc, papers).expect(rt, "memory");
+    let settled = settle_places(alloc, papers).expect(rt, "memory");
     let said = placed_text(alloc, papers, settled.places.as_slice());
     expect_said(rt, "places", said, want);
 }

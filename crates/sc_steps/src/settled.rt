@@ -5,7 +5,7 @@ ghost use Rattle.sc_steps.specs.Steps.{OutputGets};
 
 use crate::fault::RunFault;
 use crate::writing::{flush_output, write_log};
-use sc_engine::{SettledPlaces, settle, settle_by_first_keys};
+use sc_engine::{SettledPlaces, settle, settle_places};
 use sc_papers::FlatPapers;
 use sc_report::{Matched, ReportFault, Watched, write_report_of};
 use std::alloc::Global;
@@ -21,7 +21,7 @@ pub fn report_papers<W: Write>(
 ) -> Result<(), RunFault>
     ensures { OutputGets (WritesText (IsReport papers.now)) W.contents out.old out.new result }
 {
-    let SettledPlaces { places, tallies } = match settle_by_first_keys(alloc, papers) {
+    let SettledPlaces { places, tallies } = match settle_places(alloc, papers) {
         Ok(settled) => settled,
         Err(_) => return Err(RunFault::OutOfMemory),
     };

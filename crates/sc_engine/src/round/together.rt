@@ -12,7 +12,6 @@ ghost use Rattle.sc_engine.specs.Together.{entries_of, moved_to, PassesUnnoted, 
 use super::Round;
 use super::chains::PutOut;
 use super::rolls::is_refused;
-use crate::applicants::Applicant;
 use crate::rank_table::rank_or_none;
 use sc_papers::{ClassedChoice, FlatPapers, Proposal};
 use sc_seats::Roll;
@@ -50,7 +49,7 @@ fn ask_for_row(
 fn ask_for_applicants(
     papers: &FlatPapers,
     ranks: &[Option<u8>],
-    applicants: &[Applicant],
+    applicants: &[u32],
     turn: usize,
     read: &mut Vec<ClassedChoice>,
 ) -> Result<(), AllocError> {
@@ -59,7 +58,7 @@ fn ask_for_applicants(
         let Some(applicant) = applicants.get(place) else {
             return Ok(());
         };
-        ask_for_row(papers, ranks, applicant.position as usize, read)?;
+        ask_for_row(papers, ranks, *applicant as usize, read)?;
     }
     Ok(())
 }
@@ -183,11 +182,7 @@ impl<R: Roll> Round<R> {
     }
 
     /// Everybody proposes, who all wait at their first choices, in this order, and whoever is put out before too many wait.
-    fn settle_together(
-        &mut self,
-        papers: &FlatPapers,
-        applicants: &[Applicant],
-    ) -> Result<(), AllocError>
+    fn settle_together(&mut self, papers: &FlatPapers, applicants: &[u32]) -> Result<(), AllocError>
         requires within { All (IsWithin papers.now) applicants.now }
         requires wait { Waits papers.now (view_of R.keys R.seats self.old) (numbers_of papers.now applicants.now) [] }
         ensures { OnOk result (Waits papers.now (view_of R.keys R.seats self.new) [] []) }
@@ -198,7 +193,7 @@ impl<R: Roll> Round<R> {
             if turn % AHEAD == 0 {
                 ask_for_applicants(papers, self.ranks.as_slice(), applicants, turn, &mut read)?;
             }
-            self.propose_on(papers, applicant.position as usize, &mut waiting)?;
+            self.propose_on(papers, *applicant as usize, &mut waiting)?;
             if waiting.len() >= MOST_WAITING {
                 self.work_off(papers, &mut waiting, &mut read, AHEAD)?;
             }
@@ -208,11 +203,7 @@ impl<R: Roll> Round<R> {
     }
 
     /// Everybody stands at their first choice, and proposes, in this order.
-    fn enter_everybody(
-        &mut self,
-        papers: &FlatPapers,
-        applicants: &[Applicant],
-    ) -> Result<(), AllocError>
+    fn enter_everybody(&mut self, papers: &FlatPapers, applicants: &[u32]) -> Result<(), AllocError>
         requires fresh { IsFresh R.keys R.seats papers.now self.old }
         requires everybody { AreEverybody papers.now applicants.now }
         ensures { OnOk result (HaveEntered papers.now (view_of R.keys R.seats self.new) (students_of papers.now)) }
@@ -228,7 +219,7 @@ impl<R: Roll> Round<R> {
     pub(crate) fn enter_together(
         &mut self,
         papers: &FlatPapers,
-        applicants: &[Applicant],
+        applicants: &[u32],
     ) -> Result<(), AllocError>
         requires fresh { IsFresh R.keys R.seats papers.now self.old }
         requires everybody { AreEverybody papers.now applicants.now }

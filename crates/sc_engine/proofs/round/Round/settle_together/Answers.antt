@@ -3,7 +3,6 @@ use Rattle.std.proofs.lemmas.List.{drop_all, drop_more, nil_from_length}
 use Rattle.sc_engine.specs.Applicants.{numbers_of}
 use Rattle.sc_engine.specs.Round.{view_of}
 use Rattle.sc_engine.specs.Together.{entries_of, Waits}
-use Rattle.sc_engine.specs.declared.applicants.Applicant.{Applicant}
 use Rattle.sc_engine.specs.declared.round.chains.PutOut.{PutOut}
 use Rattle.sc_engine.proofs.round.Round.settle_together.Given as given
 use Rattle.sc_engine.proofs.round.Round.settle_together.Goals as goal
@@ -14,7 +13,7 @@ proposed : (g : given.Over) (c : In_ok-propose_on g) → Waits c.args.papers.now
 proposed g c =
     let papers = c.args.papers.now in
     c.in_ok-propose_on.ensures.wait (numbers_of papers (drop (c.loop-turn.turn + 1) c.args.applicants.now)) []
-    (subst (λ (l : List Applicant). Waits papers (view_of g.R.Roll.keys g.R.Roll.seats c.loop-turn.self) (numbers_of papers l) (entries_of c.loop-turn.waiting.items)) (drop_more c.args.applicants.now c.loop-turn.turn _ c.loop-turn-test.true) c.loop-turn.invariant)
+    (subst (λ (l : List ℕ). Waits papers (view_of g.R.Roll.keys g.R.Roll.seats c.loop-turn.self) (numbers_of papers l) (entries_of c.loop-turn.waiting.items)) (drop_more c.args.applicants.now c.loop-turn.turn _ c.loop-turn-test.true) c.loop-turn.invariant)
 
 pub work_off-requires-clause-wait : goal.work_off-requires-clause-wait
 work_off-requires-clause-wait g c = (_, proposed g (goal.at.work_off-requires-clause-wait g c).In_ok-propose_on)
@@ -36,4 +35,4 @@ returns g c =
     let papers = c.args.papers.now in
     subst (λ (l : List PutOut). Waits papers (view_of g.R.Roll.keys g.R.Roll.seats c.work_off-2.new.self) [] (entries_of l)) (nil_from_length c.work_off-2.new.waiting.items (omega (arith, c.in_ok-work_off-2.ensures.few)))
     (c.in_ok-work_off-2.ensures.wait []
-    (subst (λ (l : List Applicant). Waits papers (view_of g.R.Roll.keys g.R.Roll.seats c.loop-turn.self) (numbers_of papers l) (entries_of c.loop-turn.waiting.items)) (drop_all c.loop-turn.turn c.args.applicants.now (omega (arith, c.loop-turn-test.false))) c.loop-turn.invariant))
+    (subst (λ (l : List ℕ). Waits papers (view_of g.R.Roll.keys g.R.Roll.seats c.loop-turn.self) (numbers_of papers l) (entries_of c.loop-turn.waiting.items)) (drop_all c.loop-turn.turn c.args.applicants.now (omega (arith, c.loop-turn-test.false))) c.loop-turn.invariant))
