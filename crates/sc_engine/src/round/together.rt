@@ -24,46 +24,30 @@ const AHEAD: usize = 16;
 /// How many may wait before they propose.
 const MOST_WAITING: usize = 32;
 
-/// Asks for the rank of the student at a position, if there is one, and for their row: to read the choice at that rank brings
-/// near what their proposals read. Nobody looks at what was read: it goes into a list, since a read that goes nowhere is none.
-fn ask_for_row(
-    papers: &FlatPapers,
-    ranks: &[Option<u8>],
-    at: usize,
-    read: &mut Vec<ClassedChoice>,
-) -> Result<(), AllocError> {
-    if at >= papers.students_len() {
-        return Ok(());
-    }
-    let Some(Some(rank)) = ranks.get(at) else {
-        return Ok(());
-    };
-    if let Some(choice) = papers.classed_choices_at(at).get(usize::from(*rank)) {
-        read.push(*choice)?;
-    }
-    Ok(())
-}
-
 /// Asks for the rows of the next of these students, from a turn on, so that the waits of many for far memory pass side by
-/// side.
+/// side: to read the choice at which they stand, their first, brings near what their proposals read. Nobody looks at what was
+/// read: it goes into a list, since a read that goes nowhere is none.
 fn ask_for_applicants(
     papers: &FlatPapers,
-    ranks: &[Option<u8>],
     applicants: &[u32],
     turn: usize,
     read: &mut Vec<ClassedChoice>,
-) -> Result<(), AllocError> {
+) -> Result<(), AllocError>
+    requires within { All (IsWithin papers.now) applicants.now }
+    requires turn { turn < length applicants.now }
+{
     read.clear();
-    for place in turn..turn.saturating_add(AHEAD) {
-        let Some(applicant) = applicants.get(place) else {
-            return Ok(());
-        };
-        ask_for_row(papers, ranks, *applicant as usize, read)?;
+    let end = applicants.len().min(turn + AHEAD);
+    for applicant in &applicants[turn..end] {
+        if let Some(choice) = papers.classed_choices_at(*applicant as usize).first() {
+            read.push(*choice)?;
+        }
     }
     Ok(())
 }
 
-/// The same for the first of those who have been put out, where they may stand.
+/// The same for the first of those who have been put out, where they may stand in the order of entry, at the ranks at which
+/// whoever stands there does.
 fn ask_for_put_out(
     papers: &FlatPapers,
     ranks: &[Option<u8>],
@@ -71,11 +55,13 @@ fn ask_for_put_out(
     read: &mut Vec<ClassedChoice>,
 ) -> Result<(), AllocError> {
     read.clear();
-    for place in 0..AHEAD {
-        let Some(out) = waiting.get(place) else {
-            return Ok(());
-        };
-        ask_for_row(papers, ranks, out.guess, read)?;
+    for out in waiting.iter().take(AHEAD) {
+        if let Some(Some(rank)) = ranks.get(out.guess)
+            && out.guess < papers.students_len()
+            && let Some(choice) = papers.classed_choices_at(out.guess).get(usize::from(*rank))
+        {
+            read.push(*choice)?;
+        }
     }
     Ok(())
 }
@@ -191,7 +177,7 @@ impl<R: Roll> Round<R> {
         let mut read = Vec::new(self.alloc);
         for (turn, applicant) in applicants.iter().enumerate() {
             if turn % AHEAD == 0 {
-                ask_for_applicants(papers, self.ranks.as_slice(), applicants, turn, &mut read)?;
+                ask_for_applicants(papers, applicants, turn, &mut read)?;
             }
             self.propose_on(papers, *applicant as usize, &mut waiting)?;
             if waiting.len() >= MOST_WAITING {
