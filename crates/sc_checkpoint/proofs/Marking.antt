@@ -1,19 +1,15 @@
 -- Segments at positions of the order of entry: their log, where their students stand, and a table of ranks by their entries.
-use Rattle.std.proofs.Common.{◌≡◌, ap, sym, ◌∙◌, ℕ, ◌+◌, List, [], ◌∷◌, ◌++◌, length, min, Some, take, slice_get, append-nil, arith, zero, suc, ◌<◌, get_or, map, refl, ◌≤◌, Bool, not, Option, None, find, inl, inr, ◌==◌, nat_eq, false, ◌||◌, set, position}
+use Rattle.std.proofs.Common.{◌≡◌, ap, sym, ◌∙◌, ℕ, ◌+◌, List, [], ◌∷◌, ◌++◌, length, min, Some, take, slice_get, append-nil, arith, zero, suc, ◌<◌, get_or, refl, ◌≤◌, Bool, not, Option, None, find, inl, inr, ◌==◌, nat_eq, false, ◌||◌, set, position}
 use Rattle.std.proofs.lemmas.Bool.Decides.{nat_tests}
-use Rattle.std.proofs.lemmas.List.{length-append, take_more, length-map, map_push}
+use Rattle.std.proofs.lemmas.List.{length-append, take_more, map_push}
 use Rattle.std.proofs.lemmas.Grind.{flat_map-append, common_steps}
-use Rattle.std.proofs.lemmas.Option.{get_or_from_slice_get, slice_get_within, none-some, same_Some, slice_get-get_or, slice_get-map}
+use Rattle.std.proofs.lemmas.Option.{get_or_from_slice_get, slice_get_within, none-some, same_Some, slice_get-get_or}
 use Rattle.sc_papers.specs.Restriction.{joined}
 use Rattle.sc_papers.specs.declared.rejection.Rejection.{Rejection}
-use Rattle.std.specs.List.Sorted.{IsStrictlyIncreasing}
-use Rattle.std.specs.Option.{option_map}
-use Rattle.sc_papers.specs.Market.{Market, student_at, students_of, choices_of}
+use Rattle.sc_papers.specs.Market.{Market, students_of, choices_of}
 use Rattle.sc_papers.proofs.Choices.{one-place, found-is, found-none, places-end}
 use Rattle.sc_papers.specs.WellFormed.{WellFormed, WithinLimits}
-use Rattle.sc_checkpoint.specs.Chains.{logs_at, logs_in, students_in, with_chain, Chain}
-use Rattle.sc_checkpoint.specs.Positions.{LieBelow}
-use Rattle.sc_checkpoint.proofs.Rising.{rising-once}
+use Rattle.sc_checkpoint.specs.Chains.{logs_in, students_in, with_chain, Chain}
 use Rattle.sc_papers.specs.Log.{is_rejected, next_choice}
 use Rattle.sc_papers.proofs.Students.{choices-short, choices-differ}
 use Rattle.sc_checkpoint.specs.Ranks.{has_rank, AreRejectedRanks, IsFirstOutside, AreTabled}
@@ -52,35 +48,6 @@ chain-at (chain ∷ chains) (suc at) i log here its = chain-at chains at i log h
 
 pub chain_next : (chains : List Chain) (k i : ℕ) (log : List Rejection) → slice_get (students_in chains) k ≡ Some i → slice_get (logs_in chains) k ≡ Some log → with_chain (take k chains) i log ≡ take (k + 1) chains
 chain_next chains k i log here its = sym (take-next chains k (record { student = i; rejections = log }) (chain-at chains k i log here its))
-
--- the student at the position that stands at an index
-pub picked-student : (m : Market) (positions : List ℕ) (k i : ℕ) → LieBelow (length (students_of m)) positions → slice_get (map (student_at m) positions) k ≡ Some i
-    → (k < length positions) × (slice_get (students_of m) (get_or positions k 0) ≡ Some i)
-picked-student m positions k i within here =
-    let low : k < length positions = omega (arith, slice_get_within (map (student_at m) positions) k i here, length-map positions (student_at m)) in
-    let is : student_at m (get_or positions k 0) ≡ i =
-    same_Some (student_at m (get_or positions k 0)) i (sym (slice_get-map (student_at m) positions k ∙ ap (option_map (student_at m)) (slice_get-get_or positions k 0 low)) ∙ here) in
-    (low, slice_get-get_or (students_of m) (get_or positions k 0) 0 (within k low) ∙ ap Some is)
-
-pub picked-here : (m : Market) (positions : List ℕ) (k at i : ℕ) → k < length positions → get_or positions k 0 ≡ at → slice_get (students_of m) at ≡ Some i → slice_get (map (student_at m) positions) k ≡ Some i
-picked-here m positions k at i low is here =
-    slice_get-map (student_at m) positions k ∙ ap (option_map (student_at m)) (slice_get-get_or positions k 0 low)
-    ∙ ap Some (ap (student_at m) is ∙ get_or_from_slice_get (students_of m) at i 0 here)
-
-pub picked-once : (m : Market) (positions : List ℕ) → WellFormed m → IsStrictlyIncreasing positions → LieBelow (length (students_of m)) positions
-    → (j k t : ℕ) → slice_get (map (student_at m) positions) j ≡ Some t → slice_get (map (student_at m) positions) k ≡ Some t → j ≡ k
-picked-once m positions well rising within j k t here there =
-    let (low_j, at_j) = picked-student m positions j t within here in
-    let (low_k, at_k) = picked-student m positions k t within there in
-    rising-once positions j k rising low_j low_k (one-place (students_of m) (get_or positions j 0) (get_or positions k 0) t well.students_differ at_j at_k)
-
--- the log of the segments at positions, one after the other
-pub picked-next : (positions : List ℕ) (chains : List Chain) (k at : ℕ) (log : List Rejection) → k < length positions → get_or positions k 0 ≡ at → slice_get (logs_in chains) at ≡ Some log
-    → joined (take (k + 1) (logs_at positions chains)) ≡ joined (take k (logs_at positions chains)) ++ log
-picked-next positions chains k at log low is here =
-    sym (joined_next (logs_at positions chains) k log
-    (slice_get-map (λ p. get_or (logs_in chains) p []) positions k ∙ ap (option_map (λ p. get_or (logs_in chains) p [])) (slice_get-get_or positions k 0 low)
-    ∙ ap Some (ap (λ p. get_or (logs_in chains) p []) is ∙ get_or_from_slice_get (logs_in chains) at log [] here)))
 
 -- The first choice whose rank is not in a set, and where students stand.
 
@@ -154,6 +121,12 @@ school-here : (m : Market) (i s rank : ℕ) → position (λ t. t == s) (choices
 school-here m i s rank found =
     let (low, is, first) = position-Some (λ t. t == s) (choices_of m i) rank 0 found in
     slice_get-get_or (choices_of m i) rank 0 low ∙ ap Some (eqb-true (get_or (choices_of m i) rank 0) s is)
+
+-- a student stands at their position
+pub student-here : (m : Market) (i at : ℕ) → position (nat_eq i) (students_of m) ≡ Some at → slice_get (students_of m) at ≡ Some i
+student-here m i at found =
+    let (low, is, first) = position-Some (nat_eq i) (students_of m) at 0 found in
+    slice_get-get_or (students_of m) at 0 low ∙ ap Some (sym (eqb-true i (get_or (students_of m) at 0) is))
 
 -- a set has room for the rank of a choice
 pub rank-low : (m : Market) (i s rank : ℕ) → WithinLimits m → position (λ t. t == s) (choices_of m i) ≡ Some rank → rank < 32

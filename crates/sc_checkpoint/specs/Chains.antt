@@ -1,5 +1,5 @@
 -- A log in segments, one for each student in order of entry.
-use Rattle.std.specs.Prelude.{ℕ, List, [], ◌∷◌, ◌++◌, map, slice_index_or, slice_set}
+use Rattle.std.specs.Prelude.{ℕ, List, [], ◌∷◌, ◌++◌, map, slice_set}
 use Rattle.sc_papers.specs.declared.rejection.Rejection.{Rejection}
 
 -- a student, and the rejections of the chain with which the student entered
@@ -18,10 +18,6 @@ logs_in chains = map (λ chain. chain.rejections) chains
 -- the chains, and one more student's at their end
 abbrev pub with_chain : List Chain → ℕ → List Rejection → List Chain
 with_chain chains i log = chains ++ record { student = i; rejections = log } ∷ []
-
--- the segments of the log at these positions
-abbrev pub logs_at : List ℕ → List Chain → List (List Rejection)
-logs_at positions chains = map (λ position. slice_index_or (logs_in chains) position []) positions
 
 -- the list, of which what stands at these positions has given way to the renewed, in turn
 abbrev pub replaced : {X : Type 0} → List X → List ℕ → List X → List X

@@ -1,11 +1,9 @@
 -- Sets of ranks in a list of choices, and which ranks the schools that rejected a student have.
-use Rattle.std.specs.Prelude.{◌≡◌, ℕ, ◌<◌, ◌==◌, Bool, false, true, List, ◌++◌, Some, length, slice_get}
-use Rattle.std.specs.List.Sorted.{IsStrictlyIncreasing}
+use Rattle.std.specs.Prelude.{◌≡◌, ℕ, ◌<◌, ◌==◌, Bool, false, true, List, ◌++◌, Some, slice_get}
 use Rattle.std.specs.Int.{bit_at}
-use Rattle.sc_papers.specs.Market.{Market, choices_of, students_of}
+use Rattle.sc_papers.specs.Market.{Market, choices_of}
 use Rattle.sc_papers.specs.Log.{is_rejected}
 use Rattle.sc_papers.specs.declared.rejection.Rejection.{Rejection}
-use Rattle.sc_checkpoint.specs.Positions.{LieBelow}
 use Rattle.sc_checkpoint.specs.declared.rank_set.RankSet.{RankSet}
 
 -- whether a rank is in the set
@@ -30,9 +28,3 @@ pub record AreTabled (m : Market) (students : List ℕ) (log : List Rejection) (
 abbrev pub MarksEntries : Market → List ℕ → List Rejection → List RankSet → List RankSet → Type 0
 MarksEntries m students entries old new =
     (log : List Rejection) → AreTabled m students log old → AreTabled m students (log ++ entries) new
-
--- rising positions of the papers' students, and a set of ranks for each
-pub record CanMark (m : Market) (positions : List ℕ) (table : List RankSet) : Type 0 where
-  pub rising : IsStrictlyIncreasing positions
-  pub within : LieBelow (length (students_of m)) positions
-  pub one_each : length table ≡ length positions

@@ -10,4 +10,4 @@ mod standing;
 
 pub use segments::Segments;
 pub use span::Spans;
-pub use standing::{Standing, Standings};
+pub use standing::Standing;

@@ -1,16 +1,15 @@
 ghost use Rattle.std.specs.Prelude.{◌≡◌, ◌<◌, ◌≤◌, List, [], length, map, min, remove, take, slice_get, Some};
 ghost use Rattle.std.specs.Prelude.{IfOk, IfSome, OnOk, OnErr};
-ghost use Rattle.std.specs.List.Sorted.{IsStrictlyIncreasing};
 ghost use Rattle.sc_papers.specs.Restriction.{joined};
-ghost use Rattle.sc_papers.specs.Market.{student_at, students_of};
-ghost use Rattle.sc_checkpoint.specs.Chains.{Chain, students_in, logs_in, logs_at, replaced, with_chain};
+ghost use Rattle.sc_papers.specs.Market.{students_of};
+ghost use Rattle.sc_checkpoint.specs.Chains.{Chain, students_in, logs_in, replaced, with_chain};
 ghost use Rattle.sc_checkpoint.specs.Spans.{chains_in, AreWithin};
 ghost use Rattle.sc_checkpoint.specs.NextChoices.{next_choices_after};
 ghost use Rattle.sc_checkpoint.specs.Positions.{LieBelow};
 
-use crate::next_choices::{first_positions, rejected_ranks_at};
+use crate::next_choices::rejected_ranks;
 use crate::span::{Span, Spans, push_span, replace_spans};
-use crate::standing::{Standing, Standings};
+use crate::standing::Standing;
 use sc_papers::{FlatPapers, MOST_STUDENTS, Rejection, StudentNo};
 use std::alloc::{AllocError, Global};
 use std::collections::VecDeque;
@@ -161,7 +160,8 @@ impl Segments {
     /// next choice, the first that has not rejected them, whatever the log says. The only error is a
     /// refused growth.
     ///
-    /// The cost is that of `next_choices_of` for the first `k` positions.
+    /// The cost is that of copying their log, and for each of its entries a look-up of the student by number and a pass over
+    /// the student's row.
     pub fn next_choices_at(
         &self,
         papers: &FlatPapers,
@@ -172,55 +172,19 @@ impl Segments {
         ensures { IfOk result (λ next_choices. next_choices.items
             ≡ next_choices_after papers.now (joined (take k (logs_in self.now))) (take k (students_of papers.now))) }
     {
-        let stands = self.standings_at(papers, k)?;
-        Ok(stands.choices)
-    }
-
-    /// What `next_choices_at` tells, and with it at which rank each of them may stand.
-    pub fn standings_at(&self, papers: &FlatPapers, k: usize) -> Result<Standings, AllocError>
-        requires within { k ≤ length self.now }
-        requires students { take k (students_in self.now) ≡ take k (students_of papers.now) }
-        ensures { IfOk result (λ stands. stands.choices.items
-            ≡ next_choices_after papers.now (joined (take k (logs_in self.now))) (take k (students_of papers.now))) }
-    {
-        let positions = first_positions(self.alloc, k)?;
-        let stands = self.next_choices_of(papers, positions.as_slice())?;
-        Ok(stands)
-    }
-
-    /// Where the students at some positions of the papers stand after the log of the segments there alone. The
-    /// only error is a refused growth.
-    ///
-    /// The cost is, for each entry of these segments, a binary search among the positions and a pass over one
-    /// student's row in the papers, with a look-up by number where the entry is not of the segment's own student; and
-    /// a look at one row for each position. Memory is taken for the positions alone.
-    pub fn next_choices_of(
-        &self,
-        papers: &FlatPapers,
-        positions: &[usize],
-    ) -> Result<Standings, AllocError>
-        requires rising { IsStrictlyIncreasing positions.now }
-        requires within { LieBelow (length (students_of papers.now)) positions.now }
-        requires held { LieBelow (length self.now) positions.now }
-        ensures { IfOk result (λ stands. stands.choices.items
-            ≡ next_choices_after papers.now (joined (logs_at positions.now self.now))
-            (map (student_at papers.now) positions.now)) }
-    {
         // This call tells that the papers are within their limits, and so are their lists.
         prove!(papers.students_len() <= MOST_STUDENTS);
-        let rejected = rejected_ranks_at(self.alloc, papers, self, positions)?;
-        let mut choices = Vec::with_capacity(self.alloc, positions.len())?;
-        let mut ranks = Vec::with_capacity(self.alloc, positions.len())?;
-        for (turn, position) in positions.iter().enumerate() {
-            let Some(student) = papers.student_at(*position) else {
+        let log = self.prefix(k)?;
+        let rejected = rejected_ranks(self.alloc, papers, log.as_slice(), k)?;
+        let mut next_choices = Vec::with_capacity(self.alloc, k)?;
+        for position in 0..k {
+            let Some(student) = papers.student_at(position) else {
                 unreachable!()
             };
-            let rank = rejected[turn].first_outside();
-            let next = papers.choice_at(*position, rank);
-            choices.push_reserved(Standing { student, next });
-            ranks.push(u8::try_from(rank).unwrap_or(0))?;
+            let next = papers.choice_at(position, rejected[position].first_outside());
+            next_choices.push(Standing { student, next })?;
         }
-        Ok(Standings { choices, ranks })
+        Ok(next_choices)
     }
 
     /// Gives the segments at some positions up for renewed ones, in turn: one at each position. Their entries are those of
