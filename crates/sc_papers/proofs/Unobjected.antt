@@ -65,9 +65,3 @@ nothing-before (x ∷ xs) = (refl, nothing-before xs)
 -- to one that names each school once
 pub none-twice_in : (xs : List ℕ) → IsDistinct nat_eq xs → twice_in xs ≡ None
 none-twice_in xs differ = ap (option_map SchoolTwice) (distinct-first_repeat [] xs (nothing-before xs) differ)
-
--- to one that names one school at most
-pub none_twice_short : (xs : List ℕ) → length xs < 2 → twice_in xs ≡ None
-none_twice_short [] short = refl
-none_twice_short (x ∷ []) short = refl
-none_twice_short (x ∷ y ∷ xs) short = absurd (omega (arith, short))

@@ -5,7 +5,6 @@ pub mod Change
 pub mod Refusal
 pub mod Verdict
 pub mod TakingBack
-pub mod Marks
 pub mod WellFormed
 pub mod Classed
 pub mod SchoolPositions

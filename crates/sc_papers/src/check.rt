@@ -9,7 +9,6 @@ use crate::amendment::{Amendment, Refusal};
 use crate::count::Count;
 use crate::flat_papers::FlatPapers;
 use crate::limits::{LONGEST_LIST, MOST_STUDENTS};
-use crate::marks::{MARKS, has_come, mark_of};
 use crate::position_list::PositionList;
 use crate::school_no::SchoolNo;
 use crate::seats::Seats;
@@ -19,12 +18,10 @@ use sc_lottery::StudentNumber;
 fn find_repeat(list: &[SchoolNo]) -> Option<SchoolNo>
     ensures { result ≡ first_repeat [] list.now }
 {
-    let mut marked = [false; MARKS];
     for (place, school) in list.iter().enumerate() {
-        if has_come(&list[..place], &marked, *school) {
+        if list[..place].contains(school) {
             return Some(*school);
         }
-        marked[mark_of(*school)] = true;
     }
     None
 }
@@ -89,14 +86,9 @@ pub(crate) fn check_school(papers: &FlatPapers, school: Option<SchoolNo>) -> Res
     }
 }
 
-#[tactic(auto, using(crate::proofs::Unobjected::none_twice_short))]
 fn check_once(list: &[SchoolNo]) -> Result<(), Refusal>
     ensures { result ≡ unless_refused (twice_in list.now) }
 {
-    // Most have no siblings or one, and need no marks.
-    if list.len() < 2 {
-        return Ok(());
-    }
     match find_repeat(list) {
         Some(school) => Err(Refusal::SchoolTwice { school }),
         None => Ok(()),

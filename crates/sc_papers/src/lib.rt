@@ -17,7 +17,6 @@ mod key;
 mod known;
 pub mod laws;
 mod limits;
-mod marks;
 mod papers;
 mod placed_choices;
 mod position_list;

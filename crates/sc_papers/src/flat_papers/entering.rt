@@ -4,7 +4,7 @@ use crate::amendment::Refusal;
 use crate::check::{check_enter, check_enter_at};
 use crate::flat_papers::FlatPapers;
 use crate::limits::{MOST_SCHOOLS, MOST_STUDENTS};
-use crate::placed_choices::{ChosenPositions, PlacedChoices};
+use crate::placed_choices::ChosenPositions;
 use crate::position_list::{PositionList, keep_siblings};
 use crate::records::{School, Student};
 use crate::school_list::SchoolList;
@@ -113,11 +113,6 @@ impl FlatPapers {
         ensures refused { IfErr result (λ refusal. Some refusal ≡ first_of
             (objections_to_enter self.now number student.now.siblings student.now.choices student.now.continuing)) }
     {
-        let mut placed = PlacedChoices::new();
-        if placed.push_all(self, student.choices.as_slice()) {
-            self.check_entry_at(number, student, placed.chosen())?;
-            return Ok(placed.chosen().as_list().copy());
-        }
         check_enter(
             self,
             number,

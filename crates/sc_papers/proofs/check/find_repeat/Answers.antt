@@ -1,17 +1,21 @@
-use Rattle.std.proofs.Common.{arith, rules}
-use Rattle.sc_papers.proofs.Repeats.{first_repeat-found, first_repeat-passed, marked-more}
+use Rattle.std.proofs.Common.{arith, refl}
+use Rattle.sc_papers.proofs.Repeats.{first_repeat-at}
 use Rattle.sc_papers.proofs.check.find_repeat.Goals as goal
 
-pub returns-then-has_come : goal.returns-then-has_come
-returns-then-has_come c =
-    first_repeat-found c.args.list.now c.loop-place.place c.index-list-place.result c.has_come.result (omega arith)
-    c.index-list-place.is c.loop-place.invariant.0 c.has_come.ensures c.if-has_come.true
+pub returns-then-contains : goal.returns-then-contains
+returns-then-contains c =
+    rw (
+      c.loop-place.invariant,
+      first_repeat-at c.args.list.now c.loop-place.place c.index-list-place.result (omega arith) c.index-list-place.is,
+      ← c.contains.ensures.value,
+      c.if-contains.true,
+    ) refl
 
 pub loop-place-preserved : goal.loop-place-preserved
-loop-place-preserved c = (
-  first_repeat-passed c.args.list.now c.loop-place.place c.index-list-place.result c.has_come.result (omega arith)
-      c.index-list-place.is c.loop-place.invariant.0 c.has_come.ensures c.if-has_come.false,
-  marked-more c.args.list.now c.loop-place.place c.index-list-place.result c.loop-place.marked c.mark_of.result (omega arith)
-      c.index-list-place.is c.mark_of.ensures.mark (omega (arith, c.mark_of.ensures.within, c.loop-place.invariant.2)) c.loop-place.invariant.1,
-  search rules,
-)
+loop-place-preserved c =
+    rw (
+      c.loop-place.invariant,
+      first_repeat-at c.args.list.now c.loop-place.place c.index-list-place.result (omega arith) c.index-list-place.is,
+      ← c.contains.ensures.value,
+      c.if-contains.false,
+    ) refl
