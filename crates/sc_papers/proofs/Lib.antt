@@ -47,5 +47,4 @@ pub mod Weaving
 pub mod EntryOrder
 pub mod NumberTable
 pub mod Slots
-pub mod RecordSlots
-pub mod StudentRows
+pub mod InOrder

@@ -1,12 +1,12 @@
 -- The records that stand beside flat papers, and what is made of these.
-use Rattle.std.proofs.Common.{◌≡◌, refl, ap, subst, sym, ◌∙◌, All, ℕ, ◌+◌, ◌<◌, nat_eq, List, [], ◌∷◌, ◌++◌, length, get_or, map, take, Option, Some, None, false, is_some, position, slice_get, arith}
+use Rattle.std.proofs.Common.{◌≡◌, refl, set-set, ap, subst, sym, ◌∙◌, All, ℕ, ◌+◌, ◌<◌, nat_eq, List, [], ◌∷◌, ◌++◌, length, get_or, map, take, Option, Some, None, false, is_some, position, slice_get, arith}
 use Rattle.std.specs.Prelude.{slice_set}
 use Rattle.std.specs.Option.{option_and_then, option_map, option_map_or}
 use Rattle.std.proofs.lemmas.Bool.{false≢true}
 use Rattle.std.proofs.lemmas.Cmp.{nat_eq_equiv}
 use Rattle.std.proofs.lemmas.List.{get_or-map, length-map, map-append, take_more, take-map}
 use Rattle.std.proofs.lemmas.Map.Entries.{lookup_from_place}
-use Rattle.std.proofs.lemmas.Option.{get_or_from_slice_get, none-some, slice_get-get_or, slice_get-map}
+use Rattle.std.proofs.lemmas.Option.{get_or_from_slice_get, none-some, slice_get-map}
 use Rattle.sc_papers.specs.Classed.{Classed}
 use Rattle.sc_papers.specs.Market.{Market, choices_of, continuing_of, siblings_of, student_at, student_of, students_of, zone_of}
 use Rattle.sc_papers.specs.Records.{AreRecords}
@@ -54,10 +54,8 @@ pub record-low : (m : Market) (records : List Student) (i at : ℕ) → AreRecor
 record-low m records i at are found = omega (arith, position-low m i at found, ap length are, length-map m.students (λ e. e.1))
 
 pub record-read : (m : Market) (records : List Student) (i at : ℕ) (student : Student) → AreRecords m records → position (nat_eq i) (students_of m) ≡ Some at
-    → student ≡ get_or records at student → student_of m i ≡ Some student
-record-read m records i at student are found is =
-    let low = record-low m records i at are found in
-    sym (record-at m i at found) ∙ ap (λ rs. slice_get rs at) (sym are) ∙ slice_get-get_or records at student low ∙ ap Some (sym is)
+    → slice_get records at ≡ Some student → student_of m i ≡ Some student
+record-read m records i at student are found here = sym (record-at m i at found) ∙ ap (λ rs. slice_get rs at) (sym are) ∙ here
 
 pub records-read : (m : Market) → WellFormed m → (at : ℕ) → slice_get (map (λ e. e.1) m.students) at ≡ option_and_then (student_of m) (slice_get (students_of m) at)
 records-read m well at = go (slice_get m.students at) refl
@@ -81,12 +79,13 @@ records-more m well records at student low known before =
     ∙ ap (λ s. take at all ++ s ∷ []) (sym (get_or_from_slice_get all at student student here))
     ∙ sym (take_more all at student within)
 
--- what is put in a record's place is what the papers hold then
-pub records-put : (m : Market) (records : List Student) (i at : ℕ) (student : Student) → AreRecords m records → position (nat_eq i) (students_of m) ≡ Some at
-    → AreRecords (changed_student m i (λ before. student)) (slice_set records at student)
-records-put m records i at student are found =
-    ap (λ rs. slice_set rs at student) are ∙ set-found (λ k w. w) i m.students student at (sym found)
-    ∙ ap (λ (n : Market). map (λ e. e.1) n.students) (put-known m i at student found)
+-- what is put in the place of a record that was taken out is what the papers hold then
+pub records-put : (m new : Market) (records rest put : List Student) (i at : ℕ) (none student : Student) → AreRecords m records → position (nat_eq i) (students_of m) ≡ Some at
+    → rest ≡ slice_set records at none → put ≡ slice_set rest at student → new ≡ changed_student m i (λ before. student) → AreRecords new put
+records-put m new records rest put i at none student are found taken back is =
+    back ∙ ap (λ rs. slice_set rs at student) taken ∙ set-set records at none student
+    ∙ ap (λ rs. slice_set rs at student) are ∙ set-found (λ k w. w) i m.students student at (sym found)
+    ∙ ap (λ (n : Market). map (λ e. e.1) n.students) (put-known m i at student found ∙ sym is)
 
 -- a change of what the papers hold puts what it makes of it in its place
 pub changed-known : (m : Market) (i : ℕ) (before : Student) (change : Student → Student) → student_of m i ≡ Some before

@@ -20,7 +20,7 @@ pub mod Placed
 pub mod Progress
 pub mod Records
 pub mod Slots
-pub mod StudentRows
+pub mod Ordered
 pub mod Reordering
 pub mod EntryOrder
 pub mod Interleaving

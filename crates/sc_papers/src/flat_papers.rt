@@ -9,18 +9,18 @@ mod keys;
 mod number_table;
 pub(crate) mod numbers;
 pub(crate) mod order;
-mod rows;
 
 use crate::classed_choice::ClassedChoice;
 use crate::flat_papers::numbers::{Finding, Numbers};
-use crate::flat_papers::rows::StudentRows;
 use crate::limits::MOST_STUDENTS;
+use crate::ordered::Ordered;
 use crate::position_list::PositionList;
 use crate::records::School;
 use crate::school_no::SchoolNo;
 use crate::school_positions::SchoolPositions;
 use crate::seats::Seats;
 use crate::seeded_hash::SeededHash;
+use crate::student_row::StudentRow;
 use indexmap::IndexMap;
 use sc_lottery::{Draws, Seed, StudentNumber};
 use std::alloc::{AllocError, Global};
@@ -39,7 +39,7 @@ pub struct FlatPapers {
     numbers: Numbers,
     // What a proposal reads of each student, in order of entry: so a key costs no block of the cipher, nor a look-up
     // where there is one sibling at most, and a choice no look-up.
-    rows: StudentRows,
+    rows: Ordered<StudentRow>,
     // Where the schools of the siblings stand of students who have more than one. There is room for those of all, so that
     // a correction takes no memory.
     siblings: IndexMap<StudentNumber, PositionList, SeededHash>,
@@ -124,7 +124,7 @@ impl FlatPapers {
             schools: IndexMap::with_hasher(alloc, SeededHash::new(seed)),
             positions: SchoolPositions::new(alloc),
             numbers: Numbers::new(finding, alloc, SeededHash::new(seed)),
-            rows: StudentRows::new(finding, alloc),
+            rows: Ordered::new(finding, alloc),
             siblings: IndexMap::with_hasher(alloc, SeededHash::new(seed)),
         }
     }

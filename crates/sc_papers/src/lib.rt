@@ -17,6 +17,7 @@ mod key;
 mod known;
 pub mod laws;
 mod limits;
+mod ordered;
 mod papers;
 mod placed_choices;
 mod position_list;

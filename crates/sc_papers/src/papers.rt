@@ -6,8 +6,7 @@ ghost use Rattle.sc_papers.specs.Change.{ChangesTo};
 ghost use Rattle.sc_papers.specs.Entry.{MayEnterAt};
 ghost use Rattle.sc_papers.specs.Market.{choices_of, continuing_of, seats_of, schools_of, siblings_of, student_at, student_of, students_of, zone_of};
 ghost use Rattle.sc_papers.specs.Placed.{schools_at};
-ghost use Rattle.sc_papers.specs.Records.{no_record, AreRecords};
-ghost use Rattle.sc_papers.specs.Slots.{in_order, AreSlots};
+ghost use Rattle.sc_papers.specs.Records.{AreRecords};
 ghost use Rattle.sc_papers.specs.Verdict.{first_of, objections_to_add, objections_to_close, objections_to_correct, objections_to_enter, objections_to_rerank, school_verdict, with_choices, with_circumstances, with_school, with_seats, with_student, without_student, IsRefusal, IsSchoolRefusal};
 ghost use Rattle.sc_papers.specs.EntryOrder.{with_moved_student, with_swapped_students};
 
@@ -15,10 +14,9 @@ use crate::amendment::Refusal;
 use crate::count::Count;
 use crate::flat_papers::FlatPapers;
 use crate::flat_papers::numbers::Finding;
-use crate::flat_papers::order::{move_item, swap_items};
 use crate::limits::{LONGEST_LIST, MOST_STUDENTS};
+use crate::ordered::Ordered;
 use crate::position_list::PositionList;
-use crate::record_slots::{first_slots, remove_slotted};
 use crate::recording::{records_of, replace_circumstances};
 use crate::records::Student;
 use crate::school_list::SchoolList;
@@ -38,17 +36,13 @@ use std::ops::Deref;
 /// What needs no record is asked of the flat papers that they hold, which a call on these reaches by itself.
 pub struct Papers {
     flat: FlatPapers,
-    // Where each student's record lies, in order of entry.
-    slots: Vec<u32>,
-    // In any order, so that one that goes moves one other at most.
-    records: Vec<Student>,
+    records: Ordered<Student>,
 }
 
 impl Drop for Papers {
     fn drop(self) {
         let Papers {
             flat: _,
-            slots: _,
             records: _,
         } = self;
     }
@@ -59,14 +53,11 @@ impl Model for Papers {
 
     ghost Value = { Market };
 
-    ghost use Rattle.std.specs.Prelude.{length};
-    ghost use Rattle.sc_papers.specs.Records.{no_record, AreRecords};
-    ghost use Rattle.sc_papers.specs.Slots.{in_order, AreSlots};
+    ghost use Rattle.sc_papers.specs.Records.{AreRecords};
 
     ghost view = { λ p. p.flat };
 
-    ghost invariant = { λ p. AreSlots p.slots.items (length p.records.items)
-        × AreRecords p.flat (in_order no_record p.slots.items p.records.items) };
+    ghost invariant = { λ p. AreRecords p.flat p.records.items };
 }
 
 impl Deref for Papers {
@@ -80,25 +71,23 @@ impl Deref for Papers {
     }
 }
 
-/// The same slots, and the same records.
-fn copy_records(
-    slots: &Vec<u32>,
-    records: &Vec<Student>,
-) -> Result<(Vec<u32>, Vec<Student>), AllocError>
-    ensures slots { IfOk result (λ copy. copy.0.items ≡ slots.now.items) }
-    ensures records { IfOk result (λ copy. copy.1.items ≡ records.now.items) }
+/// Records of all students.
+fn recorded(papers: &FlatPapers) -> Result<Ordered<Student>, AllocError>
+    ensures { IfOk result (λ records. AreRecords papers.now records.items) }
 {
-    let slots = slots.clone()?;
-    Ok((slots, records.clone()?))
+    // This call tells that the papers are within their limits, so a slot has 32 bits.
+    prove!(papers.students_len() <= MOST_STUDENTS);
+    Ordered::laid(records_of(papers)?)
 }
 
-/// Records of all students, and the slots in which they lie.
-fn recorded(papers: &FlatPapers) -> Result<(Vec<u32>, Vec<Student>), AllocError>
-    ensures slots { IfOk result (λ made. AreSlots made.0.items (length made.1.items)) }
-    ensures records { IfOk result (λ made. AreRecords papers.now (in_order no_record made.0.items made.1.items)) }
-{
-    let slots = first_slots(papers.allocator(), papers.students_len())?;
-    Ok((slots, records_of(papers)?))
+/// What stands in the place of a record that is taken out to be changed. It takes no memory.
+fn no_record(alloc: Global) -> Student {
+    Student {
+        zone: Zone::default(),
+        continuing: None,
+        siblings: SchoolList::from_vec(Vec::new(alloc)),
+        choices: SchoolList::from_vec(Vec::new(alloc)),
+    }
 }
 
 impl Papers {
@@ -110,8 +99,7 @@ impl Papers {
     {
         Papers {
             flat: FlatPapers::finding(Finding::ByTable, alloc, seed),
-            slots: Vec::new(alloc),
-            records: Vec::new(alloc),
+            records: Ordered::new(Finding::ByTable, alloc),
         }
     }
 
@@ -123,11 +111,7 @@ impl Papers {
     {
         let flat = flat.with_table()?;
         match recorded(&flat) {
-            Ok((slots, records)) => Ok(Papers {
-                flat,
-                slots,
-                records,
-            }),
+            Ok(records) => Ok(Papers { flat, records }),
             Err(refused) => {
                 drop(flat);
                 Err(refused)
@@ -140,19 +124,7 @@ impl Papers {
     pub fn copy(&self) -> Result<Self, AllocError>
         ensures { IfOk result (λ copy. copy ≡ self.now) }
     {
-        // The records come last, so that no error has to let them go.
-        let flat = self.flat.copy()?;
-        match copy_records(&self.slots, &self.records) {
-            Ok((slots, records)) => Ok(Papers {
-                flat,
-                slots,
-                records,
-            }),
-            Err(refused) => {
-                drop(flat);
-                Err(refused)
-            }
-        }
+        Papers::from_flat(self.flat.copy()?)
     }
 
     /// What the papers hold of a student, or `None` where the student is not in them. In constant
@@ -161,8 +133,7 @@ impl Papers {
         ensures { option_copied result ≡ student_of self.now student }
     {
         let position = self.flat.student_position(student)?;
-        let slot = self.slots[position];
-        Some(&self.records[slot as usize])
+        Some(self.records.at(position))
     }
 
     /// What the papers hold of the student at a position of the order of entry, from 0, or `None` past
@@ -173,8 +144,7 @@ impl Papers {
     {
         // This call tells that the papers are well-formed: no number stands twice.
         prove!(self.flat.students_len() <= MOST_STUDENTS);
-        let slot = self.slots.get(position)?;
-        Some(&self.records[*slot as usize])
+        self.records.get(position)
     }
 
     /// The choices, best first, of the student at a position of the order of entry, from 0. In constant
@@ -253,10 +223,7 @@ impl Papers {
         // This call tells that the papers are within their limits, so a slot has 32 bits.
         prove!(self.flat.students_len() <= MOST_STUDENTS);
         self.records.reserve(1)?;
-        self.slots.reserve(1)?;
-        let slot = self.records.len() as u32;
         self.flat.put_last(number, &student, choices)?;
-        self.slots.push_reserved(slot);
         self.records.push_reserved(student);
         Ok(())
     }
@@ -272,10 +239,12 @@ impl Papers {
         let Some(position) = self.flat.student_position(number) else {
             unreachable!()
         };
-        let slot = self.slots[position];
-        let record = &mut self.records[slot as usize];
+        let mut record = self
+            .records
+            .replace(position, no_record(self.flat.allocator()));
         let before = mem::replace(&mut record.choices, choices);
-        self.flat.put_student(number, position, record);
+        self.flat.put_student(number, position, &record);
+        let _ = self.records.replace(position, record);
         before
     }
 
@@ -297,10 +266,12 @@ impl Papers {
         let Some(position) = self.flat.student_position(number) else {
             unreachable!()
         };
-        let slot = self.slots[position];
-        let record = &mut self.records[slot as usize];
-        let before = replace_circumstances(record, zone, siblings, continuing);
-        self.flat.put_student(number, position, record);
+        let mut record = self
+            .records
+            .replace(position, no_record(self.flat.allocator()));
+        let before = replace_circumstances(&mut record, zone, siblings, continuing);
+        self.flat.put_student(number, position, &record);
+        let _ = self.records.replace(position, record);
         before
     }
 
@@ -328,7 +299,7 @@ impl Papers {
         ensures { self.new ≡ with_moved_student self.old from to }
     {
         self.flat.move_student(from, to);
-        move_item(&mut self.slots, from, to);
+        self.records.move_index(from, to);
     }
 
     /// Changes the students at two positions of the order of entry for one another, each from 0; all others stay where
@@ -338,11 +309,8 @@ impl Papers {
         requires b { b < length self.old.students }
         ensures { self.new ≡ with_swapped_students self.old a b }
     {
-        let slot_a = self.slots[a];
-        let slot_b = self.slots[b];
         self.flat.swap_students(a, b);
-        // The records change places and the slots stay, so that the last student's record stays the last.
-        swap_items(&mut self.records, slot_a as usize, slot_b as usize);
+        self.records.swap(a, b);
     }
 
     /// Removes a student, and the student's draw; the number of nobody changes nothing. The others keep their
@@ -351,10 +319,8 @@ impl Papers {
     pub fn withdraw(&mut self, student: StudentNumber)
         ensures { self.new ≡ without_student self.old student }
     {
-        // This call tells that the papers are within their limits, so a slot has 32 bits.
-        prove!(self.flat.students_len() <= MOST_STUDENTS);
         if let Some(position) = self.flat.withdraw(student) {
-            remove_slotted(&mut self.slots, &mut self.records, position);
+            self.records.remove(position);
         }
     }
 }

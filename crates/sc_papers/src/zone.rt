@@ -4,7 +4,7 @@ ghost use Rattle.sc_papers.specs.declared.zone.TheConstants.Zone.{GREATEST};
 use std::marker::Model;
 
 /// A zone's number, from 0 to 9,999, where 0 means no zone.
-#[derive(Clone, Copy, Debug, PartialEq, Eq, PartialOrd, Ord, Hash)]
+#[derive(Clone, Copy, Debug, Default, PartialEq, Eq, PartialOrd, Ord, Hash)]
 pub struct Zone {
     number: u16,
 }

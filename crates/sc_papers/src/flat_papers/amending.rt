@@ -26,8 +26,8 @@ impl FlatPapers {
         let draw = self.rows.at(at).draw();
         let positions = PositionList::new(&self.positions, student.choices.as_slice());
         let choices = self.classed_list(student, &positions);
-        self.rows
-            .put(at, StudentRow::new(number, draw, &choices, student));
+        let row = StudentRow::new(number, draw, &choices, student);
+        let _ = self.rows.replace(at, row);
         // This call tells that no number stands twice.
         let _ = self.siblings.len();
         keep_siblings(&mut self.siblings, &self.positions, number, student);

@@ -23,7 +23,7 @@ invariant_of-self-2 c =
     (c.classed_list-choices.ensures ∙ ap (λ (m : Market). map (classed_at m c.args.student.now) c.args.choices.now) (sym c.self.view_is)) in
     let row = row-made c.self.inside i c.args.student.now c.args.choices.now c.self.invariant may.within c.draw-draw.result c.new-row.result c.draw-draw.ensures.draw made in
     IsSound-entered c.self.inside _ i student c.self.invariant (MayEnter-allowed (market_of c.self.inside) i student may.allowed) c.draw-draw.ensures.seed refl refl c.in_ok-push.ensures
-    (c.push_reserved.ensures ∙ ap (λ (rows : List Row). rows ++ c.new-row.result ∷ []) c.in_ok-reserve.ensures.rows ∙ ap (λ (r : Row). c.self.inside.rows.items ++ r ∷ []) row)
+    (c.push_reserved.ensures ∙ ap (λ (rows : List Row). rows ++ c.new-row.result ∷ []) c.in_ok-reserve.ensures.items ∙ ap (λ (r : Row). c.self.inside.rows.items ++ r ∷ []) row)
     (λ q apart. c.keep_siblings.ensures.others q apart ∙ ap (lookup (nat_eq q)) c.in_ok-reserve-2.ensures.entries) c.keep_siblings.ensures.own
     (omega (arith, c.keep_siblings.ensures.room, c.in_ok-reserve-2.ensures.ok, c.saturating_sub-room.ensures, c.len.ensures, c.len-2.ensures.len, ap length c.in_ok-reserve-2.ensures.entries, ap length c.push_reserved.ensures, length_push c.reserve.new.self.items c.new-row.result))
 
@@ -39,7 +39,7 @@ returns c =
     market_of-entered c.self.inside
     (record { lottery = c.draw-draw.new.self; schools = c.self.inside.schools; positions = c.self.inside.positions; numbers = c.push.new.self; rows = c.push_reserved.new.self; siblings = c.keep_siblings.new.kept })
     i student c.self.invariant (MayEnter-allowed (market_of c.self.inside) i student may.allowed) c.draw-draw.ensures.seed refl refl c.in_ok-push.ensures
-    (c.push_reserved.ensures ∙ ap (λ (rows : List Row). rows ++ c.new-row.result ∷ []) c.in_ok-reserve.ensures.rows ∙ ap (λ (r : Row). c.self.inside.rows.items ++ r ∷ []) row)
+    (c.push_reserved.ensures ∙ ap (λ (rows : List Row). rows ++ c.new-row.result ∷ []) c.in_ok-reserve.ensures.items ∙ ap (λ (r : Row). c.self.inside.rows.items ++ r ∷ []) row)
     (λ q apart. c.keep_siblings.ensures.others q apart ∙ ap (lookup (nat_eq q)) c.in_ok-reserve-2.ensures.entries) c.keep_siblings.ensures.own
     (omega (arith, c.keep_siblings.ensures.room, c.in_ok-reserve-2.ensures.ok, c.saturating_sub-room.ensures, c.len.ensures, c.len-2.ensures.len, ap length c.in_ok-reserve-2.ensures.entries, ap length c.push_reserved.ensures, length_push c.reserve.new.self.items c.new-row.result))
     ∙ ap (λ (m : Market). with_student m i (with_choices_at m c.args.choices.now c.args.student.now)) c.self.view_is
@@ -55,4 +55,4 @@ push-requires c =
 pub keep_siblings-requires-clause-room : goal.keep_siblings-requires-clause-room
 keep_siblings-requires-clause-room c = λ none.
     let few = kept-few c.self.inside c.self.invariant c.len-2.ensures.unique in
-    omega (arith, few, c.in_ok-reserve-2.ensures.ok, c.saturating_sub-room.ensures, c.len.ensures, c.len-2.ensures.len, ap length c.in_ok-reserve.ensures.rows)
+    omega (arith, few, c.in_ok-reserve-2.ensures.ok, c.saturating_sub-room.ensures, c.len.ensures, c.len-2.ensures.len, ap length c.in_ok-reserve.ensures.items)

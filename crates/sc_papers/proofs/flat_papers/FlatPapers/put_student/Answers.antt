@@ -23,15 +23,15 @@ invariant_of-self c =
     let drawn = draw-there c.self.inside.lottery (zone_at (market_of c.self.inside)) c.self.inside.positions (market_of c.self.inside).students c.self.inside.rows.items c.args.at i c.at.result.now c.self.invariant.rows found (sym (get_or_from_slice_get c.self.inside.rows.items c.args.at c.at.result.now c.at.result.now c.at.ensures)) in
     let m = market_of c.self.inside in
     let proper = subst (λ (n : Market). IsProper n student) (sym c.self.view_is) c.requires.proper in
-    let made = c.new.ensures
+    let made = c.new-row.ensures
     ∙ ap (λ (cs : List Classed). row_at cs i c.draw-draw.result student)
     (c.classed_list-choices.ensures ∙ ap (λ (n : Market). map (classed_at n student) c.new-positions.result) (sym c.self.view_is)) in
-    let row = row-tabled m c.self.invariant.well_formed c.self.inside.positions c.self.invariant.positions i c.draw-draw.result student c.new-positions.result c.new.result
+    let row = row-tabled m c.self.invariant.well_formed c.self.inside.positions c.self.invariant.positions i c.draw-draw.result student c.new-positions.result c.new-row.result
     proper.choices_known (c.new-positions.ensures ∙ ap (positions_in c.self.inside.positions) c.as_slice.ensures) made
     ∙ ap (λ d. row_of (zone_at m) c.self.inside.positions i d student) (c.draw-draw.ensures ∙ drawn) in
     IsSound-put_student c.self.inside _ i c.args.at student c.self.invariant (subst (λ (m : Market). IsProper m student) (sym c.self.view_is) c.requires.proper) c.requires.short
-    refl refl refl refl found (c.put.ensures ∙ ap (slice_set c.self.inside.rows.items c.args.at) row) c.keep_siblings.ensures.others c.keep_siblings.ensures.own
-    (omega (arith, c.keep_siblings.ensures.room, c.self.invariant.room, ap length c.put.ensures, length-set c.self.inside.rows.items c.args.at c.new.result))
+    refl refl refl refl found (c.replace.ensures.put ∙ ap (slice_set c.self.inside.rows.items c.args.at) row) c.keep_siblings.ensures.others c.keep_siblings.ensures.own
+    (omega (arith, c.keep_siblings.ensures.room, c.self.invariant.room, ap length c.replace.ensures.put, length-set c.self.inside.rows.items c.args.at c.new-row.result))
 
 pub returns : goal.returns
 returns c =
@@ -41,17 +41,17 @@ returns c =
     let drawn = draw-there c.self.inside.lottery (zone_at (market_of c.self.inside)) c.self.inside.positions (market_of c.self.inside).students c.self.inside.rows.items c.args.at i c.at.result.now c.self.invariant.rows found (sym (get_or_from_slice_get c.self.inside.rows.items c.args.at c.at.result.now c.at.result.now c.at.ensures)) in
     let m = market_of c.self.inside in
     let proper = subst (λ (n : Market). IsProper n student) (sym c.self.view_is) c.requires.proper in
-    let made = c.new.ensures
+    let made = c.new-row.ensures
     ∙ ap (λ (cs : List Classed). row_at cs i c.draw-draw.result student)
     (c.classed_list-choices.ensures ∙ ap (λ (n : Market). map (classed_at n student) c.new-positions.result) (sym c.self.view_is)) in
-    let row = row-tabled m c.self.invariant.well_formed c.self.inside.positions c.self.invariant.positions i c.draw-draw.result student c.new-positions.result c.new.result
+    let row = row-tabled m c.self.invariant.well_formed c.self.inside.positions c.self.invariant.positions i c.draw-draw.result student c.new-positions.result c.new-row.result
     proper.choices_known (c.new-positions.ensures ∙ ap (positions_in c.self.inside.positions) c.as_slice.ensures) made
     ∙ ap (λ d. row_of (zone_at m) c.self.inside.positions i d student) (c.draw-draw.ensures ∙ drawn) in
     market_of-put_student c.self.inside
-    (record c.self.inside { rows = c.put.new.self; siblings = c.keep_siblings.new.kept })
+    (record c.self.inside { rows = c.replace.new.self; siblings = c.keep_siblings.new.kept })
     i c.args.at student c.self.invariant (subst (λ (m : Market). IsProper m student) (sym c.self.view_is) c.requires.proper)
-    c.requires.short refl refl refl refl found (c.put.ensures ∙ ap (slice_set c.self.inside.rows.items c.args.at) row) c.keep_siblings.ensures.others c.keep_siblings.ensures.own
-    (omega (arith, c.keep_siblings.ensures.room, c.self.invariant.room, ap length c.put.ensures, length-set c.self.inside.rows.items c.args.at c.new.result))
+    c.requires.short refl refl refl refl found (c.replace.ensures.put ∙ ap (slice_set c.self.inside.rows.items c.args.at) row) c.keep_siblings.ensures.others c.keep_siblings.ensures.own
+    (omega (arith, c.keep_siblings.ensures.room, c.self.invariant.room, ap length c.replace.ensures.put, length-set c.self.inside.rows.items c.args.at c.new-row.result))
     ∙ put-known (market_of c.self.inside) i c.args.at student (sym found)
     ∙ ap (λ (m : Market). changed_student m i (λ before. student)) c.self.view_is
 
