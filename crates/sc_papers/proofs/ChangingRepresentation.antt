@@ -26,7 +26,7 @@ use Rattle.sc_papers.specs.declared.records.School.{School}
 use Rattle.sc_papers.specs.declared.records.Student.{Student}
 use Rattle.sc_papers.proofs.Changing.{is_some-set_value, put_school, put_student, remove-found, set-found, WellFormed-put_school, WellFormed-put_student, WellFormed-without_student, WithinLimits-put_school, WithinLimits-put_student, WithinLimits-without_student}
 use Rattle.sc_papers.proofs.Keys.{found-by_position}
-use Rattle.sc_papers.proofs.Representation.{IsSound-shown, KeepsOthers, Shows, kept-others, market_of-shown}
+use Rattle.sc_papers.proofs.Representation.{holds-shown, KeepsOthers, Shows, kept-others, Holds}
 use Rattle.sc_papers.specs.declared.seats.TheConstants.Seats.{GREATEST}
 
 -- nobody's number takes nobody out
@@ -154,12 +154,9 @@ module _ (old new : Inside) (i place : ℕ) (sound : IsSound old)
           room = room;
         }
 
-    pub market_of-withdrawn : market_of new ≡ without_student (market_of old) i
-    market_of-withdrawn = market_of-shown new (without_student (market_of old) i) Shows-withdrawn (WellFormed-without_student (market_of old) i sound.well_formed)
-
-    pub IsSound-withdrawn : IsSound new
-    IsSound-withdrawn =
-        IsSound-shown new (without_student (market_of old) i) Shows-withdrawn
+    pub holds-withdrawn : Holds new (without_student (market_of old) i)
+    holds-withdrawn =
+        holds-shown new (without_student (market_of old) i) Shows-withdrawn
         (WellFormed-without_student (market_of old) i sound.well_formed) (WithinLimits-without_student (market_of old) i sound.within_limits)
 
 -- what the papers hold of a student who is in them is replaced
@@ -197,12 +194,9 @@ module _ (old new : Inside) (i place : ℕ) (student : Student) (sound : IsSound
           room = room;
         }
 
-    pub market_of-put_student : market_of new ≡ put_student (market_of old) i student
-    market_of-put_student = market_of-shown new (put_student (market_of old) i student) Shows-put_student (WellFormed-put_student (market_of old) i student sound.well_formed proper)
-
-    pub IsSound-put_student : IsSound new
-    IsSound-put_student =
-        IsSound-shown new (put_student (market_of old) i student) Shows-put_student
+    pub holds-put_student : Holds new (put_student (market_of old) i student)
+    holds-put_student =
+        holds-shown new (put_student (market_of old) i student) Shows-put_student
         (WellFormed-put_student (market_of old) i student sound.well_formed proper) (WithinLimits-put_student (market_of old) i student sound.within_limits short)
 
 -- a school keeps its zone, and all others theirs
@@ -242,12 +236,9 @@ module _ (old new : Inside) (s : ℕ) (school : School) (sound : IsSound old) (s
       room = rw (rows, siblings) sound.room;
     }
 
-    pub market_of-put_school : market_of new ≡ put_school (market_of old) s school
-    market_of-put_school = market_of-shown new (put_school (market_of old) s school) Shows-put_school (WellFormed-put_school (market_of old) s school sound.well_formed)
-
-    pub IsSound-put_school : IsSound new
-    IsSound-put_school =
-        IsSound-shown new (put_school (market_of old) s school) Shows-put_school
+    pub holds-put_school : Holds new (put_school (market_of old) s school)
+    holds-put_school =
+        holds-shown new (put_school (market_of old) s school) Shows-put_school
         (WellFormed-put_school (market_of old) s school sound.well_formed) (WithinLimits-put_school (market_of old) s school sound.within_limits seats)
 
 -- copied fields tell of the same market
@@ -268,8 +259,5 @@ module _ (old new : Inside) (sound : IsSound old)
       room = omega (arith, room, ap length rows);
     }
 
-    pub market_of-copied : market_of new ≡ market_of old
-    market_of-copied = market_of-shown new (market_of old) Shows-copied sound.well_formed
-
-    pub IsSound-copied : IsSound new
-    IsSound-copied = IsSound-shown new (market_of old) Shows-copied sound.well_formed sound.within_limits
+    pub holds-copied : Holds new (market_of old)
+    holds-copied = holds-shown new (market_of old) Shows-copied sound.well_formed sound.within_limits

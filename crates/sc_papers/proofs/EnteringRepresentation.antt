@@ -20,7 +20,7 @@ use Rattle.sc_papers.specs.declared.flat_papers.FlatPapers.TheInside.{Inside}
 use Rattle.sc_papers.specs.declared.records.Student.{Student}
 use Rattle.sc_papers.proofs.Entering.{MayEnter, WellFormed-with_student, WithinLimits-with_student, keys_of-push}
 use Rattle.sc_papers.proofs.EnteringAt.{choices-tabled}
-use Rattle.sc_papers.proofs.Representation.{IsSound-shown, KeepsOthers, Shows, kept-others, market_of-shown}
+use Rattle.sc_papers.proofs.Representation.{holds-shown, KeepsOthers, Shows, kept-others, Holds}
 
 -- what stands for one student more
 map-push : {X : Type 0} (f : ℕ × Student → X) (es : List (ℕ × Student)) (e : ℕ × Student) → map f (es ++ e ∷ []) ≡ map f es ++ f e ∷ []
@@ -88,13 +88,8 @@ module _ (old new : Inside) (i : ℕ) (student : Student) (sound : IsSound old) 
           room = room;
         }
 
-    -- a student who is new comes last
-    pub market_of-entered : market_of new ≡ with_student (market_of old) i student
-    market_of-entered = market_of-shown new (with_student (market_of old) i student) Shows-entered (WellFormed-with_student (market_of old) i student sound.well_formed may)
-
-    -- and the fields stay sound
-    pub IsSound-entered : IsSound new
-    IsSound-entered =
-        IsSound-shown new (with_student (market_of old) i student) Shows-entered
+    pub holds-entered : Holds new (with_student (market_of old) i student)
+    holds-entered =
+        holds-shown new (with_student (market_of old) i student) Shows-entered
         (WellFormed-with_student (market_of old) i student sound.well_formed may)
         (WithinLimits-with_student (market_of old) i student sound.within_limits may)

@@ -1,5 +1,5 @@
 -- A student who moves in the order of entry, and back; and two who change places.
-use Rattle.std.proofs.Common.{◌≡◌, ℕ, zero, suc, ◌+◌, ◌-◌, ◌<◌, ◌≤◌, nat_eq, List, [], ◌∷◌, ◌++◌, length, take, insert, remove, slice_get, swap, Option, Some, None, IsPermutation, true, refl, sym, ap, subst, ◌∙◌, arith, Bool, Contains, inl, inr}
+use Rattle.std.proofs.Common.{map, ◌≡◌, ℕ, zero, suc, ◌+◌, ◌-◌, ◌<◌, ◌≤◌, nat_eq, List, [], ◌∷◌, ◌++◌, length, take, insert, remove, slice_get, swap, Option, Some, None, IsPermutation, true, refl, sym, ap, subst, ◌∙◌, arith, inl, inr}
 use Rattle.std.specs.Prelude.{is_some, nat_lt}
 use Rattle.std.specs.Option.{option_map_or}
 use Rattle.std.specs.Map.{keys_of, lookup, remove_entry}
@@ -7,20 +7,17 @@ use Rattle.std.specs.List.{position_or_len}
 use Rattle.std.proofs.Math.Seq.{take-append_seam}
 use Rattle.std.proofs.lemmas.Bool.{cases_Bool, cond-true, eq-eqb, eqb-true}
 use Rattle.std.proofs.lemmas.Cmp.{nat_eq_equiv}
-use Rattle.std.proofs.lemmas.List.Edits.{length-swap}
+use Rattle.std.proofs.lemmas.List.{length-map}
 use Rattle.std.proofs.lemmas.List.Sorted.{All-permutation, IsPermutation-insert, IsPermutation-map, IsPermutation-refl, IsPermutation-remove, IsPermutation-swap, IsPermutation-trans, length_permutation}
 use Rattle.std.proofs.lemmas.Map.{lookup-remove_entry}
 use Rattle.std.proofs.lemmas.Map.Keys.{IsDistinct-IsPermutation}
 use Rattle.std.proofs.lemmas.Option.{get_or_from_slice_get, slice_get_within}
 use Rattle.indexmap.specs.IndexMap.{move_index}
 use Rattle.indexmap.proofs.RemoveLemmas.{moved_last}
-use Rattle.indexmap.proofs.ReorderLemmas.{map-swap}
-use Rattle.indexmap.proofs.SetLemmas.{map-move}
 use Rattle.sc_lottery.specs.Draw.{draw}
 use Rattle.sc_papers.specs.EntryOrder.{with_moved_student, with_swapped_students}
 use Rattle.sc_papers.specs.Market.{Market, is_student, student_of, students_of, zone_at}
-use Rattle.sc_papers.specs.Reordering.{IsReordering}
-use Rattle.sc_papers.specs.Restriction.{cut, AreApart}
+use Rattle.sc_papers.specs.Restriction.{cut}
 use Rattle.sc_papers.specs.Representation.{IsSound, market_of}
 use Rattle.sc_papers.specs.StudentRow.{positions_in, row_of}
 use Rattle.sc_papers.specs.WellFormed.{IsProper, IsShort, WellFormed, WithinLimits}
@@ -30,8 +27,8 @@ use Rattle.sc_papers.specs.Verdict.{objections_to_withdraw, verdict, without_stu
 use Rattle.sc_papers.specs.declared.amendment.Amendment.TheVariants.{Withdraw}
 use Rattle.sc_papers.proofs.Entering.{IsProper-known}
 use Rattle.sc_papers.proofs.Objections.{first_of-none}
-use Rattle.sc_papers.proofs.Reordering.{choices-moved, lookup-reordered}
-use Rattle.sc_papers.proofs.Representation.{IsSound-shown, Shows, market_of-shown}
+use Rattle.sc_papers.proofs.Reordering.{lookup-reordered}
+use Rattle.sc_papers.proofs.Representation.{holds-shown, Holds}
 use Rattle.sc_papers.proofs.TakingBack.{known-student, remove-last}
 
 -- what a move makes of an item that is there
@@ -50,14 +47,6 @@ moved-items {X = X} xs from to = go (slice_get xs from) refl
         (IsPermutation-remove xs from x (slice_get_within xs from x there) (sym (get_or_from_slice_get xs from x x there)))
         (IsPermutation-insert (remove xs from) to x))
 
--- so the papers are the same in another order of entry
-pub moved-reordering : (m : Market) (from to : ℕ) → IsReordering m (with_moved_student m from to)
-moved-reordering m from to = record {
-  seed = refl;
-  schools = IsPermutation-refl m.schools;
-  students = moved-items m.students from to;
-}
-
 -- papers with the same students in another order
 abbrev reordered : Market → List (ℕ × Student) → Market
 reordered m students = record m { students = students }
@@ -72,8 +61,8 @@ WellFormed-reordered m students moved formed = record {
       All-permutation (λ (entry : ℕ × Student). IsProper (reordered m students) entry.1) m.students students moved (λ k d here. proper _ (formed.students_proper k d here));
 }
 
-pub WellFormed-moved : (m : Market) (from to : ℕ) → WellFormed m → WellFormed (with_moved_student m from to)
-WellFormed-moved m from to formed = WellFormed-reordered m (move_index m.students from to) (moved-items m.students from to) formed
+pub WellFormed-swapped : (m : Market) (a b : ℕ) → a < length m.students → b < length m.students → WellFormed m → WellFormed (with_swapped_students m a b)
+WellFormed-swapped m a b low high formed = WellFormed-reordered m (swap m.students a b) (IsPermutation-swap m.students (swap m.students a b) a b low high refl) formed
 
 -- and within the limits
 WithinLimits-reordered : (m : Market) (students : List (ℕ × Student)) → IsPermutation m.students students → WithinLimits m → WithinLimits (reordered m students)
@@ -84,9 +73,6 @@ WithinLimits-reordered m students moved within = record {
   lists = All-permutation (λ (entry : ℕ × Student). IsShort entry.1) m.students students moved within.lists;
 }
 
-pub WithinLimits-moved : (m : Market) (from to : ℕ) → WithinLimits m → WithinLimits (with_moved_student m from to)
-WithinLimits-moved m from to within = WithinLimits-reordered m (move_index m.students from to) (moved-items m.students from to) within
-
 -- what is kept of a student
 abbrev Keeps : Inside → ℕ × Student → Type 0
 Keeps p e = nat_lt 1 (length e.1.siblings) ≡ true → lookup (nat_eq e.0) p.siblings.entries ≡ Some (positions_in p.positions e.1.siblings)
@@ -96,78 +82,24 @@ moved-known : (m : Market) (students : List (ℕ × Student)) (q : ℕ) → IsPe
 moved-known m students q moved well known =
     ap is_some (lookup-reordered m.students students moved well.students_differ q) ∙ known
 
--- the fields of the type `FlatPapers` stay sound where a student moves, and what stands at their position as far
-module _ (old new : Inside) (from to : ℕ) (sound : IsSound old)
-    (seed : new.lottery ≡ old.lottery) (schools : new.schools ≡ old.schools) (positions : new.positions ≡ old.positions)
-    (numbers : new.numbers ≡ move_index old.numbers from to)
-    (rows : new.rows.items ≡ move_index old.rows.items from to) (siblings : new.siblings ≡ old.siblings)
-  where
-    Shows-moved : Shows new (with_moved_student (market_of old) from to)
-    Shows-moved =
-        let m = market_of old in
-        record {
-          seed = seed;
-          schools = rw schools refl;
-          positions = rw positions sound.positions;
-          numbers = numbers ∙ ap (λ ks. move_index ks from to) sound.numbers ∙ sym (map-move (λ (e : ℕ × Student). e.0) m.students from to);
-          rows =
-              rows ∙ ap (λ rs. move_index rs from to) sound.rows
-              ∙ sym (map-move (λ (e : ℕ × Student). row_of (zone_at (market_of old)) old.positions e.0 (draw old.lottery e.0) e.1) m.students from to)
-              ∙ rw positions refl;
-          siblings = rw (positions, siblings) (All-permutation (Keeps old) m.students (move_index m.students from to) (moved-items m.students from to) sound.siblings);
-          of_students = rw siblings (λ q known. moved-known m (move_index m.students from to) q (moved-items m.students from to) sound.well_formed (sound.of_students q known));
-          room = rw (siblings, rows) (let same = length_permutation old.rows.items (move_index old.rows.items from to) (moved-items old.rows.items from to) in let before = sound.room in omega arith);
-        }
-
-    pub market_of-moved : market_of new ≡ with_moved_student (market_of old) from to
-    market_of-moved = market_of-shown new (with_moved_student (market_of old) from to) Shows-moved (WellFormed-moved (market_of old) from to sound.well_formed)
-
-    pub IsSound-moved : IsSound new
-    IsSound-moved =
-        IsSound-shown new (with_moved_student (market_of old) from to) Shows-moved
-        (WellFormed-moved (market_of old) from to sound.well_formed) (WithinLimits-moved (market_of old) from to sound.within_limits)
-
--- well-formed papers stay so where two students change places
-pub WellFormed-swapped : (m : Market) (a b : ℕ) → a < length m.students → b < length m.students → WellFormed m → WellFormed (with_swapped_students m a b)
-WellFormed-swapped m a b low high formed = WellFormed-reordered m (swap m.students a b) (IsPermutation-swap m.students (swap m.students a b) a b low high refl) formed
-
--- and the fields stay sound where what stands at their positions does so too
-module _ (old new : Inside) (a b : ℕ) (low : a < length (market_of old).students) (high : b < length (market_of old).students) (sound : IsSound old)
-    (seed : new.lottery ≡ old.lottery) (schools : new.schools ≡ old.schools) (positions : new.positions ≡ old.positions)
-    (numbers : new.numbers ≡ swap old.numbers a b)
-    (rows : new.rows.items ≡ swap old.rows.items a b) (siblings : new.siblings ≡ old.siblings)
-  where
-    Shows-swapped : Shows new (with_swapped_students (market_of old) a b)
-    Shows-swapped =
-        let m = market_of old in
-        let moved = IsPermutation-swap m.students (swap m.students a b) a b low high refl in
-        record {
-          seed = seed;
-          schools = rw schools refl;
-          positions = rw positions sound.positions;
-          numbers = numbers ∙ ap (λ ks. swap ks a b) sound.numbers ∙ sym (map-swap (λ (e : ℕ × Student). e.0) m.students a b);
-          rows =
-              rows ∙ ap (λ rs. swap rs a b) sound.rows
-              ∙ sym (map-swap (λ (e : ℕ × Student). row_of (zone_at (market_of old)) old.positions e.0 (draw old.lottery e.0) e.1) m.students a b)
-              ∙ rw positions refl;
-          siblings = rw (positions, siblings) (All-permutation (Keeps old) m.students (swap m.students a b) moved sound.siblings);
-          of_students = rw siblings (λ q known. moved-known m (swap m.students a b) q moved sound.well_formed (sound.of_students q known));
-          room = rw (siblings, rows) (let same = length-swap old.rows.items a b in let before = sound.room in omega arith);
-        }
-
-    pub market_of-swapped : market_of new ≡ with_swapped_students (market_of old) a b
-    market_of-swapped = market_of-shown new (with_swapped_students (market_of old) a b) Shows-swapped (WellFormed-swapped (market_of old) a b low high sound.well_formed)
-
-    pub IsSound-swapped : IsSound new
-    IsSound-swapped =
-        let m = market_of old in
-        let moved = IsPermutation-swap m.students (swap m.students a b) a b low high refl in
-        IsSound-shown new (with_swapped_students m a b) Shows-swapped
-        (WellFormed-swapped m a b low high sound.well_formed) (WithinLimits-reordered m (swap m.students a b) moved sound.within_limits)
-
--- as many items as before
-pub length-moved : {X : Type 0} (xs : List X) (from to : ℕ) → length (move_index xs from to) ≡ length xs
-length-moved xs from to = length_permutation xs (move_index xs from to) (moved-items xs from to)
+-- the fields of the type `FlatPapers` stay sound where students stand in another order, and what stands at their positions too
+pub holds-reordered : (old new : Inside) (students : List (ℕ × Student)) → IsPermutation (market_of old).students students → IsSound old
+    → new.lottery ≡ old.lottery → new.schools ≡ old.schools → new.positions ≡ old.positions → new.numbers ≡ map (λ e. e.0) students
+    → new.rows.items ≡ map (λ e. row_of (zone_at (market_of old)) old.positions e.0 (draw old.lottery e.0) e.1) students → new.siblings ≡ old.siblings
+    → Holds new (reordered (market_of old) students)
+holds-reordered old new students moved sound seed schools positions numbers rows siblings =
+    let m = market_of old in
+    let row = λ (e : ℕ × Student). row_of (zone_at m) old.positions e.0 (draw old.lottery e.0) e.1 in
+    holds-shown new (reordered m students) (record {
+      seed = seed;
+      schools = rw schools refl;
+      positions = rw positions sound.positions;
+      numbers = numbers;
+      rows = rows ∙ rw positions refl;
+      siblings = rw (positions, siblings) (All-permutation (Keeps old) m.students students moved sound.siblings);
+      of_students = rw siblings (λ q known. moved-known m students q moved sound.well_formed (sound.of_students q known));
+      room = rw siblings (omega (arith, sound.room, ap length sound.rows, ap length rows, length-map m.students row, length-map students row, length_permutation m.students students moved));
+    }) (WellFormed-reordered m students moved sound.well_formed) (WithinLimits-reordered m students moved sound.within_limits)
 
 -- what is put in at a place stands there
 inserted-there : {X : Type 0} (ys : List X) (at : ℕ) (x : X) → at ≤ length ys → slice_get (insert ys at x) at ≡ Some x
@@ -280,10 +212,3 @@ module _ (m : Market) (i : ℕ) (well : WellFormed m) (allowed : verdict m (With
   last-back =
       let back = moved-back m.students place (length m.students - 1) (i, known.0) there (omega (arith, last-within)) in
       (λ t. let n : Market = record m { students = back t } in n)
-
--- whoever lies apart does so in any order of entry
-pub apart-moved : (m : Market) (from to : ℕ) (test : ℕ → Bool) → WellFormed m → AreApart m test → AreApart (with_moved_student m from to) test
-apart-moved m from to test well apart =
-    let n = with_moved_student m from to in
-    let same = choices-moved m n well (moved-reordering m from to) in
-    record { none_shared = λ i j s passes fails lists listed. apart.none_shared i j s passes fails (subst (λ xs. Contains xs s) (same i) lists) (subst (λ xs. Contains xs s) (same j) listed) }

@@ -22,7 +22,7 @@ use Rattle.sc_papers.specs.declared.school_refusal.SchoolRefusal.TheVariants.{Sc
 use Rattle.sc_papers.proofs.Objections.{first_of-none, refuse_if-none}
 use Rattle.sc_papers.proofs.Entering.{is_some-false, keys_of-push, list_any-keys}
 use Rattle.sc_papers.proofs.Positions.{position-push}
-use Rattle.sc_papers.proofs.Representation.{IsSound-shown, Shows, market_of-shown}
+use Rattle.sc_papers.proofs.Representation.{holds-shown, Shows, Holds}
 use Rattle.sc_papers.specs.declared.limits.TheConstants.{MOST_SCHOOLS}
 use Rattle.sc_papers.specs.declared.seats.TheConstants.Seats.{GREATEST}
 
@@ -101,13 +101,8 @@ module _ (old new : Inside) (s : ℕ) (school : School) (sound : IsSound old) (m
           room = rw (rows, siblings) sound.room;
         }
 
-    -- a school that is new comes last
-    pub market_of-opened : market_of new ≡ with_school (market_of old) s school
-    market_of-opened = market_of-shown new (with_school (market_of old) s school) Shows-opened (WellFormed-with_school (market_of old) s school sound.well_formed may)
-
-    -- and the fields stay sound
-    pub IsSound-opened : IsSound new
-    IsSound-opened =
-        IsSound-shown new (with_school (market_of old) s school) Shows-opened
+    pub holds-opened : Holds new (with_school (market_of old) s school)
+    holds-opened =
+        holds-shown new (with_school (market_of old) s school) Shows-opened
         (WellFormed-with_school (market_of old) s school sound.well_formed may)
         (WithinLimits-with_school (market_of old) s school sound.within_limits may seats)

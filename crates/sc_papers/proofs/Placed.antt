@@ -1,9 +1,8 @@
 -- Choices that go by where their schools stand.
-use Rattle.std.proofs.Common.{◌≡◌, ℕ, ◌+◌, ◌<◌, ◌==◌, nat_eq, true, List, [], ◌∷◌, ◌++◌, length, map, position, replicate, get_or, Some, None, refl, sym, ap, ◌∙◌, inl, inr, arith}
+use Rattle.std.proofs.Common.{◌≡◌, ℕ, ◌<◌, ◌==◌, nat_eq, true, List, [], ◌∷◌, ◌++◌, length, map, position, replicate, get_or, Some, None, refl, sym, ap, ◌∙◌, inl, inr, arith}
 use Rattle.std.specs.Prelude.{slice_index_or, slice_set}
 use Rattle.std.specs.List.{list_any, AllPass}
 use Rattle.std.proofs.lemmas.Bool.{cases_Bool, cases_lt, cases_order, eq-eqb, ne_eqb}
-use Rattle.std.proofs.lemmas.Bool.Decides.{nat_tests}
 use Rattle.std.proofs.lemmas.Grind.{get_or-set_at}
 use Rattle.std.proofs.lemmas.List.{get_or-replicate, get_or-set_other, get_or_past, length-map, length-replicate, map-append}
 use Rattle.std.proofs.lemmas.List.Folds.{list_any-append}
@@ -98,13 +97,6 @@ turns-none n = record {
       | inl low ↦ get_or-replicate n p 0 0 low
       | inr past ↦ get_or_past (replicate n 0) p 0 (let none : ℕ = 0 in omega (arith, past, length-replicate n none))
     ]
-
--- at the next turn nothing is chosen yet
-pub turns-next : (turns chosen : List ℕ) (turn : ℕ) → AreLastTurns turns turn chosen → AreLastTurns turns (turn + 1) []
-turns-next turns chosen turn are = record {
-  these = λ p low. let before = are.none_later p in grind (arith, nat_tests);
-  none_later = λ p. omega (arith, are.none_later p);
-}
 
 -- and then what was chosen
 pub turns-push : (turns chosen : List ℕ) (turn x : ℕ) → x < length turns → AreLastTurns turns turn chosen → AreLastTurns (slice_set turns x turn) turn (chosen ++ x ∷ [])

@@ -91,27 +91,28 @@ module _ (m : Market) (table : List (Option ℕ)) (kept : List (ℕ × List ℕ)
       (All-tail (λ (e : ℕ × Student). nat_lt 1 (length e.1.siblings) ≡ true → lookup (nat_eq e.0) kept ≡ Some (positions_in table e.1.siblings)) (i, student) es keeps) in
       λ t. entry-back i student own told t ∷ rest t
 
--- fields that tell of a market hold it
-pub market_of-shown : (p : Inside) (m : Market) → Shows p m → WellFormed m → market_of p ≡ m
-market_of-shown p m shows well =
+-- the fields are sound, and hold this market
+abbrev pub Holds : Inside → Market → Type 0
+Holds p m = IsSound p × (market_of p ≡ m)
+
+-- so it is with fields that tell of one
+pub holds-shown : (p : Inside) (m : Market) → Shows p m → WellFormed m → WithinLimits m → Holds p m
+holds-shown p m shows well within =
     let students : (market_of p).students ≡ m.students =
     rw (shows.schools, shows.rows) (entries-back m p.positions p.siblings.entries shows.positions m.students well.students_proper shows.siblings) in
-    λ t. record { seed = shows.seed t; schools = shows.schools t; students = students t }
-
--- and are sound
-pub IsSound-shown : (p : Inside) (m : Market) → Shows p m → WellFormed m → WithinLimits m → IsSound p
-IsSound-shown p m shows well within =
-    let is = market_of-shown p m shows well in
-    record {
-      well_formed = rw is well;
-      within_limits = rw is within;
-      positions = λ s. shows.positions s ∙ sym (ap (λ (n : Market). position (nat_eq s) (schools_of n)) is);
-      numbers = shows.numbers ∙ sym (ap students_of is);
-      rows = shows.rows ∙ sym (λ t. rows_of (shows.seed t) (zone_at (is t)) p.positions (is t).students);
-      siblings = subst (λ (n : Market). AreKept p.positions p.siblings.entries n.students) (sym is) shows.siblings;
-      of_students = subst (λ (n : Market). AreOfStudents n p.siblings.entries) (sym is) shows.of_students;
-      room = shows.room;
-    }
+    let is : market_of p ≡ m = λ t. record { seed = shows.seed t; schools = shows.schools t; students = students t } in (
+      record {
+        well_formed = rw is well;
+        within_limits = rw is within;
+        positions = λ s. shows.positions s ∙ sym (ap (λ (n : Market). position (nat_eq s) (schools_of n)) is);
+        numbers = shows.numbers ∙ sym (ap students_of is);
+        rows = shows.rows ∙ sym (λ t. rows_of (shows.seed t) (zone_at (is t)) p.positions (is t).students);
+        siblings = subst (λ (n : Market). AreKept p.positions p.siblings.entries n.students) (sym is) shows.siblings;
+        of_students = subst (λ (n : Market). AreOfStudents n p.siblings.entries) (sym is) shows.of_students;
+        room = shows.room;
+      },
+      is,
+    )
 
 -- what is kept of all others stays
 abbrev pub KeepsOthers : ℕ → List (ℕ × List ℕ) → List (ℕ × List ℕ) → Type 0

@@ -1,13 +1,10 @@
 -- Numbers that rise.
-use Rattle.std.proofs.Common.{◌≡◌, ◌<◌, ◌≤◌, ℕ, nat_eq, false, true, List, [], ◌∷◌, ◌++◌, Option, None, Result, Ok, Err, Bor, length, map, get_or, position, inl, inr, refl, ap, arith}
+use Rattle.std.proofs.Common.{◌≡◌, ◌<◌, ◌≤◌, ℕ, nat_eq, false, List, [], ◌∷◌, ◌++◌, None, Result, Ok, Err, length, get_or, position, inl, inr, refl, ap, arith}
 use Rattle.std.specs.Prelude.{MatchResult}
-use Rattle.std.specs.Iterator.{Drains}
-use Rattle.std.specs.Iterator.Runs.{YieldsRefsInOrder}
 use Rattle.std.specs.List.{IsDistinct, position_or_len}
 use Rattle.std.specs.List.Sorted.{IsBinarySearchResult}
 use Rattle.std.specs.Ordering.{nat_cmp}
 use Rattle.std.specs.Result.{result_ok}
-use Rattle.std.proofs.iter.runs.Made.{run, to_end}
 use Rattle.std.proofs.lemmas.Bool.{cases_lt}
 use Rattle.std.proofs.lemmas.Bool.Decides.{nat_tests}
 use Rattle.std.proofs.lemmas.List.{get_or_append_left, get_or_push, length_push}
@@ -59,10 +56,3 @@ position-searched xs x r found rise = by r (searched xs x r found not_falling)
 -- no two of them are one
 pub IsDistinct-rise : (xs : List ℕ) → Rise xs → IsDistinct nat_eq xs
 IsDistinct-rise xs rise = IsDistinct-from_apart nat_eq xs (λ i j d before within. let less = rise i j d before within in grind (arith, nat_tests))
-
--- what was taken of an iterator that gives references to the items of a list, in order, are all of these
-pub Drains-refs : {S A : Type 0} (steps : S → Option (Bor A) → S → Type 0) (rest : S → List A) (s : S) (xs : List (Bor A))
-    → YieldsRefsInOrder steps rest → Drains steps s xs → map (λ x. x.now) xs ≡ rest s
-Drains-refs steps rest s xs runs all =
-    let p = run steps s xs true (to_end steps s xs all) in
-    (runs p p.seen).4 refl

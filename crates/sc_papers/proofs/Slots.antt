@@ -1,5 +1,5 @@
 -- Where what is kept of students lies, as they come, go and change places.
-use Rattle.std.proofs.Common.{◌≡◌, ◌<◌, ◌≢◌, ◌+◌, ◌-◌, ℕ, suc, Vec, nat_eq, Some, slice_get, false, List, [], ◌∷◌, ◌++◌, length, map, get_or, remove, swap, IsPermutation, inl, inr, refl, sym, ap, subst, ◌∙◌, arith, All}
+use Rattle.std.proofs.Common.{◌≡◌, ◌<◌, ◌≢◌, ◌+◌, ◌-◌, ℕ, suc, Vec, nat_eq, false, List, [], ◌∷◌, ◌++◌, length, map, get_or, remove, swap, IsPermutation, inl, inr, refl, sym, ap, subst, ◌∙◌, arith, All}
 use Rattle.std.specs.List.{IsDistinct, list_any, range_with_len}
 use Rattle.std.specs.Prelude.{slice_set}
 use Rattle.std.proofs.lemmas.Bool.{cases_Bool, cases_lt, eq-eqb, eqb-true, false≢true}
@@ -12,7 +12,6 @@ use Rattle.std.proofs.lemmas.List.Edits.{length-remove, length-swap}
 use Rattle.std.proofs.lemmas.List.FromFn.{map-range_with_len_more, get_or-map-range_with_len, get_or-range_with_len, length-map-range_with_len, length-range_with_len}
 use Rattle.std.proofs.lemmas.List.Sorted.{All-permutation, IsPermutation-remove, length_permutation}
 use Rattle.std.proofs.lemmas.Map.Keys.{apart_from_distinct, IsDistinct-from_apart, IsDistinct-IsPermutation, IsDistinct-push, IsDistinct-tail}
-use Rattle.std.proofs.lemmas.Option.{slice_get-get_or}
 use Rattle.std.proofs.lemmas.Simd.{map-map}
 use Rattle.indexmap.specs.IndexMap.{move_index}
 use Rattle.indexmap.proofs.ReorderLemmas.{exchange, exchange-within, get_or-swap}
@@ -76,18 +75,6 @@ AreSlots-first count = record {
 }
 
 module _ {A : Type 0} (none : A) where
-  pub item-in_order : (slots : List ℕ) (items : List A) (at slot : ℕ) (item : A) → AreSlots slots (length items) → at < length slots
-      → slot ≡ get_or slots at slot → item ≡ get_or items slot item → item ≡ get_or (in_order none slots items) at item
-  item-in_order slots items at slot item are low is here =
-      here ∙ get_or_default items slot item none (slot-low slots (length items) at slot are low is)
-      ∙ ap (λ s. get_or items s none) is ∙ sym (get_or-map (λ s. get_or items s none) slots at slot item low)
-
-  pub indexed-in_order : (slots : List ℕ) (items : List A) (at slot : ℕ) (item : A) → AreSlots slots (length items) → at < length slots
-      → slot ≡ get_or slots at slot → item ≡ get_or items slot item → Some item ≡ slice_get (in_order none slots items) at
-  indexed-in_order slots items at slot item are low is here =
-      ap Some (item-in_order slots items at slot item are low is here)
-      ∙ sym (slice_get-get_or (in_order none slots items) at item (omega (arith, low, length-map slots (λ s. get_or items s none))))
-
   -- another item in a slot
   pub in_order-put : (slots : List ℕ) (items : List A) (at slot : ℕ) (item : A) → AreSlots slots (length items) → at < length slots
       → slot ≡ get_or slots at slot → in_order none slots (slice_set items slot item) ≡ slice_set (in_order none slots items) at item

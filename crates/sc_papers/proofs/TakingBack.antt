@@ -2,7 +2,7 @@
 use Rattle.std.proofs.Common.{◌≡◌, ℕ, ◌+◌, ◌-◌, ◌≤◌, nat_eq, true, false, List, [], ◌∷◌, ◌++◌, Option, Some, None, refl, sym, ap, ◌∙◌, eq-eqb, arith, inl, inr}
 use Rattle.std.specs.Prelude.{is_some, nat_lt, not}
 use Rattle.std.specs.Map.{lookup, remove_entry, set_value}
-use Rattle.std.proofs.lemmas.Bool.{cases_Bool, le-ltb, ltb-false}
+use Rattle.std.proofs.lemmas.Bool.{cases_Bool, le-ltb}
 use Rattle.std.proofs.lemmas.Bool.Decides.{nat_tests}
 use Rattle.std.proofs.lemmas.List.Elements.{All-cons, All-head, All-nil}
 use Rattle.sc_papers.specs.Market.{Market, choices_of, is_school, is_student, continuing_of, school_of, seats_of, siblings_of, student_of, zone_of}
@@ -16,7 +16,7 @@ use Rattle.sc_papers.specs.declared.records.Student.{Student}
 use Rattle.sc_papers.specs.declared.seats.TheConstants.Seats.{GREATEST}
 use Rattle.sc_papers.proofs.Changing.{All-found, put_school, put_student}
 use Rattle.sc_papers.proofs.Entering.{MayEnter-allowed}
-use Rattle.sc_papers.proofs.Objections.{first_of-none, refuse_if-none, unknown_in-none}
+use Rattle.sc_papers.proofs.Objections.{refuse_if-none, unknown_in-none}
 use Rattle.sc_papers.proofs.Unobjected.{none-first_of, none-no_choices, none-refuse_if, none-too_long, none-twice_in, none-unknown_in, none-unknown_school, none-unknown_student}
 
 -- the choices that the papers hold
@@ -77,7 +77,7 @@ known-student m i allowed = by_case (student_of m i) (refuse_if-none (not (is_st
     by_case (Some student) known = (student, refl)
 
 -- a school that is in the papers, as they hold it
-known-school : (m : Market) (s : ℕ) → unknown_in m (s ∷ []) ≡ None → (school : School) × (school_of m s ≡ Some school)
+pub known-school : (m : Market) (s : ℕ) → unknown_in m (s ∷ []) ≡ None → (school : School) × (school_of m s ≡ Some school)
 known-school m s allowed = by_case (school_of m s) (All-head (λ t. is_school m t ≡ true) s [] (unknown_in-none m (s ∷ []) allowed))
   where
     by_case : (found : Option School) → is_some found ≡ true → (school : School) × (found ≡ Some school)
@@ -114,7 +114,7 @@ takes-back-enter m i zone siblings choices continuing allowed =
     }
 
 -- the old choices replace the new ones
-reranked-back : (m : Market) (i : ℕ) (choices : List ℕ) (student : Student) → student_of m i ≡ Some student → WellFormed m → WithinLimits m
+pub reranked-back : (m : Market) (i : ℕ) (choices : List ℕ) (student : Student) → student_of m i ≡ Some student → WellFormed m → WithinLimits m
     → TakesBack m (after m (Rerank i choices)) (Rerank i (choices_of m i))
 reranked-back m i choices student found well within =
     let reranked = record student { choices = choices } in
@@ -140,14 +140,8 @@ reranked-back m i choices student found well within =
           (changed-back m i student (λ held. record held { choices = choices }) (λ held. record held { choices = student.choices }) found refl);
     }
 
-pub takes-back-rerank : (m : Market) (i : ℕ) (choices : List ℕ) → WellFormed m → WithinLimits m → verdict m (Rerank i choices) ≡ None
-    → TakesBack m (after m (Rerank i choices)) (Rerank i (choices_of m i))
-takes-back-rerank m i choices well within allowed =
-    let known = known-student m i (first_of-none (objections_to_rerank m i choices) allowed).0 in
-    reranked-back m i choices known.0 known.1 well within
-
 -- the old zone, siblings and continuing school replace the new ones
-corrected-back : (m : Market) (i zone : ℕ) (siblings : List ℕ) (continuing : Option ℕ) (student : Student) → student_of m i ≡ Some student → WellFormed m → WithinLimits m
+pub corrected-back : (m : Market) (i zone : ℕ) (siblings : List ℕ) (continuing : Option ℕ) (student : Student) → student_of m i ≡ Some student → WellFormed m → WithinLimits m
     → TakesBack m (after m (Correct i zone siblings continuing)) (Correct i (zone_of m i) (siblings_of m i) (continuing_of m i))
 corrected-back m i zone siblings continuing student found well within =
     let corrected = record student { zone = zone; siblings = siblings; continuing = continuing } in
@@ -176,12 +170,6 @@ corrected-back m i zone siblings continuing student found well within =
           (λ held. record held { zone = student.zone; siblings = student.siblings; continuing = student.continuing }) found refl);
     }
 
-pub takes-back-correct : (m : Market) (i zone : ℕ) (siblings : List ℕ) (continuing : Option ℕ) → WellFormed m → WithinLimits m → verdict m (Correct i zone siblings continuing) ≡ None
-    → TakesBack m (after m (Correct i zone siblings continuing)) (Correct i (zone_of m i) (siblings_of m i) (continuing_of m i))
-takes-back-correct m i zone siblings continuing well within allowed =
-    let known = known-student m i (first_of-none (objections_to_correct m i siblings continuing) allowed).0 in
-    corrected-back m i zone siblings continuing known.0 known.1 well within
-
 -- a school's seats, where it is in the papers
 seats-found : (m : Market) (s : ℕ) (school : School) → school_of m s ≡ Some school → seats_of m s ≡ school.seats
 unfolding seats_of
@@ -191,7 +179,7 @@ known-there : (m : Market) (s : ℕ) (school : School) → school_of m s ≡ Som
 known-there m s school found = none-unknown_in m (s ∷ []) (All-cons (λ t. is_school m t ≡ true) s [] (ap is_some found) (All-nil (λ t. is_school m t ≡ true)))
 
 -- as many seats are closed as were added
-added-back : (m : Market) (s count : ℕ) (school : School) → school_of m s ≡ Some school → TakesBack m (after m (Add s count)) (Close s count)
+pub added-back : (m : Market) (s count : ℕ) (school : School) → school_of m s ≡ Some school → TakesBack m (after m (Add s count)) (Close s count)
 added-back m s count school found =
     let before = seats-found m s school found in
     let larger = record school { seats = seats_of m s + count } in
@@ -213,13 +201,8 @@ added-back m s count school found =
           ∙ school-changed-back m s school (λ held. record held { seats = seats_of m s + count }) (λ held. record held { seats = school.seats }) found refl;
     }
 
-pub takes-back-add : (m : Market) (s count : ℕ) → verdict m (Add s count) ≡ None → TakesBack m (after m (Add s count)) (Close s count)
-takes-back-add m s count allowed =
-    let known = known-school m s (first_of-none (objections_to_add m s count) allowed).0 in
-    added-back m s count known.0 known.1
-
 -- as many are added as were closed
-closed-back : (m : Market) (s count : ℕ) (school : School) → school_of m s ≡ Some school → count ≤ seats_of m s → WithinLimits m
+pub closed-back : (m : Market) (s count : ℕ) (school : School) → school_of m s ≡ Some school → count ≤ seats_of m s → WithinLimits m
     → TakesBack m (after m (Close s count)) (Add s count)
 closed-back m s count school found enough within =
     let before = seats-found m s school found in
@@ -242,10 +225,3 @@ closed-back m s count school found enough within =
           ∙ ap (λ (n : Market). with_seats n s school.seats) (sym after-is)
           ∙ school-changed-back m s school (λ held. record held { seats = seats_of m s - count }) (λ held. record held { seats = school.seats }) found refl;
     }
-
-pub takes-back-close : (m : Market) (s count : ℕ) → WithinLimits m → verdict m (Close s count) ≡ None → TakesBack m (after m (Close s count)) (Add s count)
-takes-back-close m s count within allowed =
-    let none = first_of-none (objections_to_close m s count) allowed in
-    let known = known-school m s none.0 in
-    let enough = refuse_if-none (nat_lt (seats_of m s) count) TooFewSeats none.1.0 in
-    closed-back m s count known.0 known.1 (ltb-false (seats_of m s) count enough) within

@@ -120,25 +120,11 @@ fn put_positions(
         ≡ (if nat_eq number q then Some positions else lookup (nat_eq q) kept.old.entries) }
     ensures room { index_map_len kept.old + spare kept.old ≤ index_map_len kept.new + spare kept.new }
 {
-    if kept.contains_key(&number) {
-        replace_positions(kept, number, positions);
-    } else if kept.insert(number, positions).is_err() {
-        unreachable!()
-    }
-}
-
-/// Puts positions in the place of those that a table has under the number.
-fn replace_positions(
-    kept: &mut IndexMap<StudentNumber, PositionList, SeededHash>,
-    number: StudentNumber,
-    positions: PositionList,
-)
-    requires { is_some (lookup (nat_eq number) kept.old.entries) ≡ true }
-    ensures put { (q : ℕ) → lookup (nat_eq q) kept.new.entries
-        ≡ (if nat_eq number q then Some positions else lookup (nat_eq q) kept.old.entries) }
-    ensures room { index_map_len kept.old + spare kept.old ≤ index_map_len kept.new + spare kept.new }
-{
     if let Some(place) = kept.get_mut(&number) {
         *place = positions;
+        return;
+    }
+    if kept.insert(number, positions).is_err() {
+        unreachable!()
     }
 }
