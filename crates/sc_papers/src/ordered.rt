@@ -44,18 +44,6 @@ fn slot_at(order: &Option<Vec<u32>>, position: usize) -> usize
     }
 }
 
-fn copy_rows(rows: &Vec<StudentRow>) -> Result<Vec<StudentRow>, AllocError>
-    ensures { IfOk result (λ copy. copy.items ≡ rows.now.items) }
-{
-    rows.clone()
-}
-
-fn copy_order(order: &Vec<u32>) -> Result<Vec<u32>, AllocError>
-    ensures { IfOk result (λ copy. copy.items ≡ order.now.items) }
-{
-    order.clone()
-}
-
 impl Ordered<StudentRow> {
     ghost use Rattle.std.specs.Prelude.{◌≡◌, IfOk};
 
@@ -65,9 +53,9 @@ impl Ordered<StudentRow> {
     {
         let order = match &self.order {
             None => None,
-            Some(order) => Some(copy_order(order)?),
+            Some(order) => Some(order.clone()?),
         };
-        match copy_rows(&self.items) {
+        match self.items.clone() {
             Ok(items) => Ok(Ordered { items, order }),
             Err(refused) => {
                 drop(order);
