@@ -3,10 +3,8 @@ use Rattle.std.proofs.Common.{◌≡◌, ℕ, suc, zero, ◌+◌, ◌<◌, ◌�
 use Rattle.std.specs.Prelude.{Result, ◌||◌, nat_le, not, is_some, find, slice_get, option_and_then}
 use Rattle.std.specs.Option.{option_or}
 use Rattle.std.specs.List.{position, IsDistinct}
-use Rattle.std.proofs.lemmas.Bool.{cases_Bool, cases_eq, cases_lt}
-use Rattle.std.specs.Cmp.{nat_cmp_is}
+use Rattle.std.proofs.lemmas.Bool.{cases_Bool}
 use Rattle.std.specs.Ordering.{is_eq, nat_cmp}
-use Rattle.std.specs.declared.cmp.Ordering.TheVariants.{Less, Equal, Greater}
 use Rattle.std.proofs.lemmas.Cmp.{nat_eq_equiv}
 use Rattle.std.proofs.lemmas.List.{at_drop_all, at_drop_more, get_or-map, length-map, length-take, take_more}
 use Rattle.std.proofs.lemmas.List.Folds.{find-append}
@@ -37,6 +35,7 @@ use Rattle.sc_intake.specs.declared.fault.Source.TheVariants.{Lists, Roster}
 use Rattle.sc_intake.specs.declared.lists.ListRow.{ListRow}
 use Rattle.sc_intake.specs.declared.roster.RosterRow.{RosterRow}
 use Rattle.sc_intake.specs.declared.schools.SchoolRow.{SchoolRow}
+use Rattle.sc_intake.proofs.SeenLemmas.{cmp-eq}
 
 -- a list's student has no earlier list
 none-earlier : (lists : List ListRow) (i : ℕ) (d : ListRow) → IsDistinct nat_eq (map list_number lists) → i < length lists
@@ -53,21 +52,6 @@ pub or-none : {X : Type 0} (o : Option X) → option_or o None ≡ o
 or-none None = refl
 or-none (Some x) = refl
 
--- a key that compares as equal is the same
-same-key : (a b : ℕ) → is_eq (nat_cmp a b) ≡ nat_eq a b
-same-key a b =
-    elim (cases_eq a b) [
-      | inl same ↦
-          let equal : nat_eq a b ≡ true = grind (arith, nat_tests) in
-          ap is_eq (sym (nat_cmp_is a b Equal same)) ∙ sym equal
-      | inr other ↦
-          let apart : nat_eq a b ≡ false = grind (arith, nat_tests) in
-          elim (cases_lt a b) [
-            | inl less ↦ ap is_eq (sym (nat_cmp_is a b Less less)) ∙ sym apart
-            | inr not_less ↦ ap is_eq (sym (nat_cmp_is a b Greater (omega arith))) ∙ sym apart
-          ]
-    ]
-
 -- a position more
 pub positions-more : (lists : List ListRow) (i : ℕ) (row : ListRow) (before after : ℕ → Option ℕ) → IsDistinct nat_eq (map list_number lists)
     → i < length lists → row ≡ get_or lists i row
@@ -75,7 +59,7 @@ pub positions-more : (lists : List ListRow) (i : ℕ) (row : ListRow) (before af
     → ((q : ℕ) → after q ≡ cond (is_eq (nat_cmp row.student q)) (Some i) (before q))
     → (q : ℕ) → option_and_then (slice_get lists) (after q) ≡ list_of (take (i + 1) lists) q
 positions-more lists i row before after differ within at positions puts q =
-    let put = λ (q : ℕ). rw (same-key row.student q) at (puts q) in
+    let put = λ (q : ℕ). rw (cmp-eq row.student q) at (puts q) in
     let more : list_of (take (i + 1) lists) q ≡ option_or (list_of (take i lists) q) (cond (nat_eq q row.student) (Some row) None) =
     ap (λ (part : List ListRow). list_of part q) (take_more lists i row within ∙ ap (λ (r : ListRow). take i lists ++ r ∷ []) (sym at)) ∙ find-append (λ (r : ListRow). nat_eq q r.student) (take i lists) (row ∷ []) in
     let turned = nat_eq_equiv.symm q row.student in

@@ -1,40 +1,21 @@
 //! The numbers of the rows so far.
 
-ghost use Rattle.std.specs.Prelude.{◌≡◌, ℕ, ◌||◌, false, not, nat_eq, IfOk, OnOk};
-ghost use Rattle.std.specs.List.{list_any};
-
 use std::alloc::{AllocError, Global};
 use std::collections::BTreeSet;
 use std::marker::Model;
 
-/// Numbers that are all different. A number above all earlier ones joins a list, so a file in order
-/// costs a comparison a row; any other joins a tree, which no choice of numbers makes slow.
+/// Numbers that are all different, in a tree, which no choice of numbers makes slow.
+#[derive(Drop)]
 pub(crate) struct SeenNumbers {
-    rising: Vec<u32>,
-    others: BTreeSet<u32>,
-    // Every number is below it.
-    bound: u64,
-}
-
-impl Drop for SeenNumbers {
-    fn drop(self) {
-        let SeenNumbers {
-            rising: _,
-            others: _,
-            bound: _,
-        } = self;
-    }
+    numbers: BTreeSet<u32>,
 }
 
 impl Model for SeenNumbers {
     ghost use Rattle.std.specs.Prelude.{ℕ, List};
-    ghost use Rattle.sc_intake.specs.Seen.{numbers_of, IsSound};
 
     ghost Value = { List ℕ };
 
-    ghost view = { numbers_of };
-
-    ghost invariant = { IsSound };
+    ghost view = { λ s. s.numbers.keys };
 }
 
 impl SeenNumbers {
@@ -46,9 +27,7 @@ impl SeenNumbers {
         ensures { (n : ℕ) → list_any (nat_eq n) result ≡ false }
     {
         SeenNumbers {
-            rising: Vec::new(alloc),
-            others: BTreeSet::new(alloc),
-            bound: 0,
+            numbers: BTreeSet::new(alloc),
         }
     }
 
@@ -59,21 +38,13 @@ impl SeenNumbers {
         ensures numbers { OnOk result ((n : ℕ)
             → list_any (nat_eq n) self.new ≡ (nat_eq n number || list_any (nat_eq n) self.old)) }
     {
-        if u64::from(number) >= self.bound {
-            self.rising.push(number)?;
-            self.bound = u64::from(number) + 1;
-            return Ok(true);
-        }
-        if self.rising.binary_search(&number).is_ok() {
-            return Ok(false);
-        }
-        Ok(self.others.insert(number)?)
+        Ok(self.numbers.insert(number)?)
     }
 
     /// Whether a number was added. The cost grows with the logarithm of how many there are.
     pub(crate) fn contains(&self, number: u32) -> bool
         ensures { result ≡ list_any (nat_eq number) self.now }
     {
-        self.rising.binary_search(&number).is_ok() || self.others.contains(&number)
+        self.numbers.contains(&number)
     }
 }
