@@ -4,10 +4,8 @@ pub mod Lines
 pub mod LineStarts
 pub mod LineCut
 pub mod PlainCutting
-pub mod Runs
 pub mod Bounded
 pub mod Words
-pub mod Spaces
 pub mod FirstNumber
 pub mod Giving
 pub mod Listing

@@ -1,11 +1,9 @@
 -- The records of a text without a quote, line by line and field by field.
-use Rattle.std.proofs.Common.{◌≡◌, ℕ, zero, suc, ◌-◌, ◌<◌, ◌≤◌, ◌==◌, ◌||◌, Bool, true, false, List, [], ◌∷◌, ◌++◌, length, map, take, drop, get_or, refl, sym, ap, ◌∙◌, append_assoc, arith, cond, Option, Some, None, unwrap_or}
-use Rattle.std.specs.Prelude.{slice_index}
+use Rattle.std.proofs.Common.{◌≡◌, ℕ, ◌-◌, ◌<◌, ◌≤◌, ◌==◌, Bool, true, false, List, [], ◌∷◌, ◌++◌, length, map, take, drop, get_or, refl, sym, ap, ◌∙◌, append_assoc, arith, cond}
 use Rattle.std.specs.Borrow.{Bor}
 use Rattle.std.proofs.lemmas.List.{map-append, take_rest}
-use Rattle.memchr.specs.Find.{IsFirstByte, Passes, is_byte3}
 use Rattle.std.specs.List.{list_any}
-use Rattle.std.proofs.lemmas.Bool.{false_from_ne_true, or_parts}
+use Rattle.std.proofs.lemmas.Bool.{or_parts}
 use Rattle.std.proofs.lemmas.List.{append-nil}
 use Rattle.sc_intake.specs.Plain.{EndsField, after_line, ends_field, ends_line, fields_from, first_line, line_of, lines_from, plain_records}
 use Rattle.sc_intake.specs.Representation.{fields_in}
@@ -77,28 +75,6 @@ pub fields-next : (piece : List ℕ) (rest : List ℕ) → list_any ends_field p
 unfolding fields_from first_line
 fields-next piece rest clean =
     ap (fields_from []) (first_line-more piece (44 ∷ rest) clean) ∙ fields-more [] piece (44 ∷ first_line rest) clean
-
--- the test that a search for three bytes makes
-pub same-test : (c : ℕ) → is_byte3 44 10 13 c ≡ ends_field c
-same-test c = by (c == 44)
-  where
-    by : (b : Bool) → ((b || (c == 10)) || (c == 13)) ≡ (b || ((c == 10) || (c == 13)))
-    by true = refl
-    by false = refl
-
--- the bytes before a place end no field, where none of them does
-clean-take : (k : ℕ) (text : List ℕ) → ((j : ℕ) → j < k → ends_field (slice_index text j) ≡ false) → list_any ends_field (take k text) ≡ false
-clean-take zero text none = refl
-clean-take (suc k) [] none = refl
-clean-take (suc k) (c ∷ cs) none = rw (none 0 (omega arith)) (clean-take k cs (λ j below. none (suc j) (omega arith)))
-
-no-end : (text : List ℕ) (j : ℕ) → ¬ (Passes (is_byte3 44 10 13) text j) → ends_field (slice_index text j) ≡ false
-no-end text j passes-not = sym (same-test (slice_index text j)) ∙ false_from_ne_true (is_byte3 44 10 13 (slice_index text j)) passes-not
-
--- the bytes before the first place that a search finds end no field
-pub clean-before : (text : List ℕ) (found : Option ℕ) → IsFirstByte (is_byte3 44 10 13) text found → list_any ends_field (take (unwrap_or found (length text)) text) ≡ false
-clean-before text None nowhere = clean-take (length text) text (λ j below. no-end text j (nowhere j (omega arith) below))
-clean-before text (Some k) first = clean-take k text (λ j below. no-end text j (first.0.before j (omega arith) below))
 
 -- a field, and what a text is after it
 module _ (text field after : List ℕ) (cut : text ≡ field ++ after) (clean : list_any ends_field field ≡ false) where

@@ -8,7 +8,7 @@ ghost use Rattle.sc_intake.specs.Plain.{EndsField, after_line, cut, ends_field, 
 ghost use Rattle.sc_intake.specs.Representation.{fields_beyond, fields_in};
 
 use crate::byte_count::count_of;
-use memchr::{memchr2, memchr3};
+use memchr::memchr2;
 use std::alloc::{AllocError, Global};
 use std::marker::Model;
 
@@ -75,21 +75,26 @@ pub(crate) fn without_line_ends(text: &[u8]) -> &[u8]
     &text[line_ends_len(text)..]
 }
 
-/// How many bytes stand before the first comma or line end of a text, or its length where there is none. The text is
-/// looked at in runs of 32 bytes, since most fields are short: a search that is to go far costs more to begin.
+/// Whether a byte ends a field.
+fn ends_field(byte: u8) -> bool
+    ensures { result ≡ ends_field byte }
+{
+    byte == b',' || ends_line(byte)
+}
+
+/// How many bytes stand before the first comma or line end of a text, or its length where there is none. They are looked at
+/// one by one, since most fields are short: a search that is to go far costs more to begin.
 pub(crate) fn field_len(text: &[u8]) -> usize
     ensures within { result ≤ length text.now }
     ensures clean { list_any ends_field (take result text.now) ≡ false }
     ensures end { EndsField (drop result text.now) }
 {
-    let mut len = 0;
-    for run in text.chunks(32) {
-        match memchr3(b',', b'\n', b'\r', run) {
-            Some(index) => return len + index,
-            None => len += run.len(),
+    for len in 0..text.len() {
+        if ends_field(text[len]) {
+            return len;
         }
     }
-    len
+    text.len()
 }
 
 /// Where the first line end of a text stands. It is looked for in the first bytes alone at first, since most lines are
