@@ -8,8 +8,7 @@ use Rattle.std.proofs.lemmas.List.{at_drop_all, at_drop_more, map-append, take_m
 use Rattle.sc_papers.specs.Market.{Market}
 use Rattle.sc_intake.specs.Checking.{Judged, fault_of, judged_from, known_from, named_school, script_faults_from, students_judged, unjudged, with_known, with_row}
 use Rattle.sc_intake.specs.Fault.{fault_at}
-use Rattle.sc_intake.specs.Papers.{entered_by, is_in_roster, list_of}
-use Rattle.sc_intake.specs.Roster.{roster_number}
+use Rattle.sc_intake.specs.Papers.{entered_by, list_of}
 use Rattle.sc_intake.specs.Rows.{added}
 use Rattle.sc_intake.specs.Seen.{AreNumbers}
 use Rattle.sc_intake.specs.Sheets.{cause_in}
@@ -102,11 +101,6 @@ AreNumbers-more number rows i row old new are within at more = λ n.
     turned true false = refl
     turned false true = refl
     turned false false = refl
-
--- whether a student is in the roster, by the roster's numbers
-pub in_roster-numbers : (roster : List RosterRow) (i : ℕ) → is_in_roster roster i ≡ list_any (nat_eq i) (map roster_number roster)
-in_roster-numbers [] i = refl
-in_roster-numbers (row ∷ rest) i = ap (λ b. nat_eq i row.student || b) (in_roster-numbers rest i)
 
 -- a list more
 pub lists-more : (f : ListRow → List IntakeFault) (before now later : List IntakeFault) (lists : List ListRow) (i : ℕ) (list : ListRow)

@@ -7,7 +7,6 @@ pub mod PlainCutting
 pub mod Bounded
 pub mod Words
 pub mod FirstNumber
-pub mod Giving
 pub mod Listing
 pub mod RowLemmas
 pub mod SeenLemmas

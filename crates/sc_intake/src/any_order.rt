@@ -15,7 +15,7 @@ ghost use Rattle.sc_intake.specs.Together.{papers_below, Fill};
 
 use crate::below::{Below, below_header, likely_students, next_student};
 use crate::lists::ListRow;
-use crate::papers::open_with_room;
+use crate::papers::open_papers;
 use crate::records::Records;
 use crate::roster::RosterRow;
 use crate::rows::Row;
@@ -130,7 +130,7 @@ fn papers_of_plain(
         width: roster.width,
         records: Records::plain(alloc, text),
     };
-    let Ok(mut papers) = open_with_room(alloc, seed, schools.as_slice(), listed.len()) else {
+    let Ok(mut papers) = open_papers(alloc, seed, schools.as_slice(), listed.len()) else {
         return None;
     };
     if !enter_each(

@@ -145,7 +145,7 @@ pub fn judge_papers(
 ) -> Result<Vec<IntakeFault>, AllocError>
     ensures { IfOk result (λ faults. faults.items ≡ faults_of_rows seed schools.now roster.now lists.now) }
 {
-    let Ok(mut papers) = open_papers(alloc, seed, schools.as_slice()) else {
+    let Ok(mut papers) = open_papers(alloc, seed, schools.as_slice(), roster.len()) else {
         return Err(AllocError);
     };
     let judged = judge_rows(alloc, &mut papers, roster, lists);

@@ -47,10 +47,7 @@ fn push_school(
     ensures rows { OnOk result (AreRows school_number MOST_SCHOOLS known.new.items) }
     ensures seen { OnOk result (AreNumbers school_number known.new.items seen.new) }
 {
-    if known.len() >= MOST_SCHOOLS {
-        return Ok(());
-    }
-    if seen.contains(school.number.get()) {
+    if known.len() >= MOST_SCHOOLS || seen.contains(school.number.get()) {
         return Ok(());
     }
     seen.insert(school.number.get())?;
@@ -117,15 +114,9 @@ pub fn known_schools(
         return Ok(Rows { rows: known });
     };
     match take_header::<SchoolRow>(&mut records) {
-        Ok(_width) => {
-            add_named(&mut records, &mut known, &mut seen)?;
-            Ok(Rows { rows: known })
-        }
-        Err(fault) => {
-            if fault.cause == Cause::OutOfMemory {
-                return Err(AllocError);
-            }
-            Ok(Rows { rows: known })
-        }
+        Ok(_width) => add_named(&mut records, &mut known, &mut seen)?,
+        Err(fault) if fault.cause == Cause::OutOfMemory => return Err(AllocError),
+        Err(_fault) => {}
     }
+    Ok(Rows { rows: known })
 }

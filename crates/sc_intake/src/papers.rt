@@ -26,11 +26,12 @@ use sc_papers::{
 use std::alloc::{AllocError, Global};
 use std::collections::BTreeMap;
 
-/// The papers with these schools, before any student, or want of memory.
+/// The papers with these schools and room for so many students, before any of them, or want of memory.
 pub(crate) fn open_papers(
     alloc: Global,
     seed: Seed,
     schools: &[SchoolRow],
+    students: usize,
 ) -> Result<FlatPapers, IntakeFault>
     requires { AreRows school_number MOST_SCHOOLS schools.now }
     ensures opened { IfOk result (λ papers. papers ≡ opening seed schools.now) }
@@ -44,21 +45,6 @@ pub(crate) fn open_papers(
             return Err(IntakeFault::no_memory(Source::Roster));
         }
     }
-    Ok(papers)
-}
-
-/// The papers with these schools and room for so many students, before any of them, or want of memory.
-pub(crate) fn open_with_room(
-    alloc: Global,
-    seed: Seed,
-    schools: &[SchoolRow],
-    students: usize,
-) -> Result<FlatPapers, IntakeFault>
-    requires { AreRows school_number MOST_SCHOOLS schools.now }
-    ensures opened { IfOk result (λ papers. papers ≡ opening seed schools.now) }
-    ensures refused { IfErr result (λ fault. fault ≡ no_memory Roster) }
-{
-    let mut papers = open_papers(alloc, seed, schools)?;
     match papers.reserve(students) {
         Ok(()) => Ok(papers),
         Err(_refused) => Err(IntakeFault::no_memory(Source::Roster)),
@@ -223,7 +209,7 @@ pub(crate) fn flat_papers_of(
 ) -> Result<FlatPapers, IntakeFault>
     ensures { Gives (λ papers. papers) (no_memory Roster) (papers_of seed schools.now roster.now lists.now) result }
 {
-    let mut papers = open_with_room(alloc, seed, schools.as_slice(), roster.len())?;
+    let mut papers = open_papers(alloc, seed, schools.as_slice(), roster.len())?;
     fill_papers(alloc, &mut papers, roster.as_slice(), lists.as_slice())?;
     Ok(papers)
 }

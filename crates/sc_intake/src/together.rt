@@ -9,7 +9,7 @@ use crate::any_order::papers_in_any_order;
 use crate::below::{Below, below_header, is_at_end, likely_students, next_placed, next_student};
 use crate::fault::IntakeFault;
 use crate::lists::{ListRow, read_lists};
-use crate::papers::{enter_placed, flat_papers_of, open_with_room, with_records};
+use crate::papers::{enter_placed, flat_papers_of, open_papers, with_records};
 use crate::roster::{RosterRow, read_roster};
 use crate::schools::{SchoolRows, read_schools};
 use sc_papers::{FlatPapers, Papers, PlacedChoices, Seed};
@@ -78,7 +78,7 @@ fn papers_filled(
     ensures { IfSome result (λ papers. Fill roster.old.width lists.old.width
         roster.old.records.left lists.old.records.left (opening seed schools.now) papers) }
 {
-    let Ok(mut papers) = open_with_room(alloc, seed, schools.as_slice(), room) else {
+    let Ok(mut papers) = open_papers(alloc, seed, schools.as_slice(), room) else {
         return None;
     };
     if !enter_together(alloc, &mut papers, roster, lists) {

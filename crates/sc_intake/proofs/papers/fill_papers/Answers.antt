@@ -1,13 +1,12 @@
 use Rattle.std.proofs.Common.{◌≡◌, Some, None, Ok, Err, inl, sym, ◌∙◌, rules}
 use Rattle.sc_intake.specs.Papers.{all_entered, first_not_in_roster}
-use Rattle.sc_intake.proofs.Giving.{Gives-error}
 use Rattle.sc_intake.proofs.PaperLemmas.{filled-all, filled-fault, filled-not-in-roster, same-unknown}
 use Rattle.sc_intake.proofs.papers.fill_papers.Goals as goal
 
 pub returns-in_err-enter_all : goal.returns-in_err-enter_all
 returns-in_err-enter_all c =
     let same : c.from_residual-in_err-enter_all.result ≡ Err c.in_err-enter_all.field-0.0 = search rules in
-    Gives-error _ _ _ _ c.in_err-enter_all.field-0.0 (filled-fault c.args.papers.now c.args.roster.now c.args.lists.now _ c.in_err-enter_all.ensures) same
+    rw same (filled-fault c.args.papers.now c.args.roster.now c.args.lists.now _ c.in_err-enter_all.ensures)
 
 pub returns-in-Some : goal.returns-in-Some
 returns-in-Some c =
