@@ -16,7 +16,6 @@ pub mod InStep
 pub mod TidyLines
 pub mod TidyFields
 pub mod TidyRows
-pub mod ReadTogether
-pub mod InAnyOrder
+pub mod Entering
 pub mod JudgingSteps
 pub mod Unquoting

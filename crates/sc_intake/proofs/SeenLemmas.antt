@@ -1,5 +1,5 @@
 -- Numbers seen so far: one more in the tree, and whether there is one.
-use Rattle.std.proofs.Common.{◌≡◌, ℕ, ◌<◌, Bool, true, false, ◌||◌, nat_eq, suc, List, [], ◌∷◌, length, get_or, refl, sym, ap, ◌∙◌, arith, Ordering, Less, Equal, Greater}
+use Rattle.std.proofs.Common.{◌≡◌, ℕ, ◌<◌, Bool, true, false, ◌||◌, nat_eq, List, [], ◌∷◌, refl, sym, ap, ◌∙◌, arith, Ordering, Less, Equal, Greater}
 use Rattle.std.specs.Prelude.{cond}
 use Rattle.std.specs.List.{list_any}
 use Rattle.std.specs.BTreeSet.{BTreeSet, Updates, contains}
@@ -39,7 +39,3 @@ tree-more old new n m updates =
     by false false is = refl
     by true false is = cc is
     by false true is = cc is
-
-pub none-at : (n : ℕ) (ns : List ℕ) → ((k : ℕ) → k < length ns → nat_eq n (get_or ns k 0) ≡ false) → list_any (nat_eq n) ns ≡ false
-none-at n [] differ = refl
-none-at n (m ∷ ns) differ = rw (differ 0 (omega arith), none-at n ns (λ k within. differ (suc k) (omega arith))) refl

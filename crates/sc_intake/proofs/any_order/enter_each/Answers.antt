@@ -1,10 +1,9 @@
-use Rattle.std.proofs.Common.{◌≡◌, ◌+◌, [], length, drop, refl, sym, ◌∙◌}
+use Rattle.std.proofs.Common.{◌≡◌, ◌≤◌, ◌+◌, [], length, drop, refl, ◌∙◌, arith}
 use Rattle.std.proofs.lemmas.Bool.{OnTrue_from, eqb-true}
 use Rattle.sc_intake.specs.Roster.{student_of}
 use Rattle.sc_intake.specs.Tidy.{TakesRow}
 use Rattle.sc_intake.specs.Together.{EntersNext}
-use Rattle.sc_intake.proofs.InAnyOrder.{AreEntered-all, AreEntered-more, AreEntered-none}
-use Rattle.sc_intake.proofs.ReadTogether.{room-left}
+use Rattle.sc_intake.proofs.Entering.{AreEntered-all, AreEntered-more, AreEntered-none, room-left}
 use Rattle.sc_intake.proofs.any_order.enter_each.Goals as goal
 
 pub rows-init : goal.rows-init
@@ -35,5 +34,5 @@ returns-in_default-next c = OnTrue_from _ _ (λ same.
     let (so_far, width, list_width) = c.rows.invariant in
     let end : c.rows.roster.records.left ≡ [] = rw c.in_default-next.is at c.in-Some.ensures.row in
     let entered : c.students_len-entered.result ≡ c.len.result = eqb-true _ _ same in
-    let many : length c.rows.papers.students ≡ length c.args.lists.now = sym c.students_len-entered.ensures.count ∙ entered ∙ c.len.ensures in
+    let many : length c.args.lists.now ≤ length c.rows.papers.students = omega (arith, c.students_len-entered.ensures.count, entered, c.len.ensures) in
     rw (← width) (AreEntered-all c.rows.roster.width c.args.width c.args.roster.now.records.left c.args.lists.now c.args.papers.now c.rows.roster.records.left c.rows.papers so_far end many))

@@ -1,6 +1,6 @@
 use Rattle.std.proofs.Common.{◌≡◌, ◌-◌, length}
 use Rattle.sc_papers.specs.declared.limits.TheConstants.{MOST_STUDENTS}
-use Rattle.sc_intake.proofs.InAnyOrder.{AreEntered}
+use Rattle.sc_intake.proofs.Entering.{AreEntered}
 use Rattle.sc_intake.proofs.any_order.enter_each.Given as goal
 
 abbrev pub invariant-rows : goal.invariant-rows

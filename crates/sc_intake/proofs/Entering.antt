@@ -1,5 +1,5 @@
--- A roster and lists of the same students in any order: one student more, by the list of a line.
-use Rattle.std.proofs.Common.{◌≡◌, ℕ, zero, suc, ◌+◌, ◌<◌, ◌≤◌, Bool, true, false, nat_eq, List, [], ◌∷◌, ◌++◌, length, map, take, drop, get_or, inl, inr, refl, sym, ap, ◌∙◌, arith, Ok, Some}
+-- Students of a roster who enter papers one by one, each by the list of a line.
+use Rattle.std.proofs.Common.{◌≡◌, ℕ, zero, suc, ◌+◌, ◌<◌, ◌≤◌, Bool, true, false, nat_eq, List, [], ◌∷◌, ◌++◌, length, map, take, drop, get_or, inl, inr, refl, sym, ap, ◌∙◌, arith, add-one, Ok, Some, ◌-◌, Err, Option, None}
 use Rattle.std.specs.Prelude.{Result, ◌||◌, nat_le}
 use Rattle.std.specs.List.{IsDistinct, list_any}
 use Rattle.std.proofs.Math.Bool.{or-true}
@@ -7,18 +7,20 @@ use Rattle.std.proofs.lemmas.Bool.{cases_Bool, cases_lt, eqb-true, or_cases}
 use Rattle.std.proofs.lemmas.Bool.Decides.{nat_tests}
 use Rattle.std.proofs.lemmas.Cmp.{nat_eq_equiv}
 use Rattle.std.proofs.lemmas.List.{drop_all, get_or-map, get_or_append_left, get_or_at, length-drop, length-map, length_push, map-append, take-append-drop}
-use Rattle.std.proofs.lemmas.List.Folds.{list_any-append, list_any_at}
-use Rattle.std.proofs.lemmas.Map.Keys.{IsDistinct-from_apart, IsDistinct-push, apart_from_distinct}
+use Rattle.std.proofs.lemmas.List.Folds.{list_any-append, list_any_at, list_any_none}
+use Rattle.std.proofs.lemmas.List.Elements.{All-from_recursion}
+use Rattle.std.proofs.lemmas.List.Sorted.{IsPermutation-to_front}
+use Rattle.std.proofs.lemmas.Map.Keys.{IsDistinct-IsPermutation, IsDistinct-head, IsDistinct-push, IsDistinct-tail}
 use Rattle.std.proofs.lemmas.Map.Made.{IsDistinct-from_count, length-from_keys, length-le_from_is_member}
 use Rattle.std.proofs.lemmas.Map.Steps.{length-le_from_distinct_below}
 use Rattle.std.proofs.Math.Seq.{drop-cons}
 use Rattle.sc_papers.specs.Market.{Market, is_student}
 use Rattle.sc_papers.specs.declared.limits.TheConstants.{MOST_STUDENTS}
-use Rattle.sc_intake.specs.File.{rows_after}
+use Rattle.sc_intake.specs.File.{rows_after, in_row}
 use Rattle.sc_intake.specs.Lists.{choices_of, list_number, next_list}
-use Rattle.sc_intake.specs.Papers.{all_entered, list_of}
+use Rattle.sc_intake.specs.Papers.{all_entered, list_of, entered_by, unless_refused}
 use Rattle.sc_intake.specs.Roster.{next_student, roster_number, student_of}
-use Rattle.sc_intake.specs.Rows.{next_row, row_at}
+use Rattle.sc_intake.specs.Rows.{next_row, row_at, added, next_row_at}
 use Rattle.sc_intake.specs.Tidy.{TakesRow}
 use Rattle.sc_intake.specs.Together.{EntersNext, Fill}
 use Rattle.sc_intake.specs.declared.fault.Cause.{Cause}
@@ -29,26 +31,65 @@ use Rattle.sc_intake.specs.declared.lists.ListRow.{ListRow}
 use Rattle.sc_intake.specs.declared.roster.RosterRow.{RosterRow}
 use Rattle.sc_intake.proofs.InStep.{in-numbers, list-at, none-missing}
 use Rattle.sc_intake.proofs.PaperLemmas.{entered-students, filled-all, or-false}
-use Rattle.sc_intake.proofs.ReadTogether.{added-row, all_entered-push, entered-more, may-enter}
 use Rattle.sc_intake.proofs.RowLemmas.{row-end, row-step}
-use Rattle.sc_intake.proofs.SeenLemmas.{none-at, same-number}
+use Rattle.sc_intake.proofs.SeenLemmas.{same-number}
+use Rattle.sc_papers.specs.Verdict.{after, objections, verdict}
+use Rattle.sc_papers.specs.declared.amendment.Amendment.TheVariants.{Enter}
+use Rattle.sc_papers.specs.declared.amendment.Refusal.{Refusal}
+use Rattle.sc_papers.specs.declared.amendment.Refusal.TheVariants.{StudentExists, RosterFull}
+use Rattle.sc_papers.proofs.Objections.{first_of-none, refuse_if-none}
+use Rattle.sc_intake.specs.Fault.{◌>>=◌}
 
--- of different numbers the first ones differ
-distinct-first : (ns : List ℕ) (n : ℕ) → IsDistinct nat_eq (ns ++ n ∷ []) → IsDistinct nat_eq ns
-distinct-first ns n differ =
-    IsDistinct-from_apart nat_eq ns (λ i j d before within.
-    let apart = apart_from_distinct nat_eq (ns ++ n ∷ []) i j d differ before (omega (arith, length_push ns n)) in
-    rw (get_or_append_left ns (n ∷ []) d i (omega arith), get_or_append_left ns (n ∷ []) d j within) at apart)
+-- who enters is not in the papers yet, and there is room
+may-enter : (m n : Market) (row : RosterRow) (list : ListRow) → entered_by m row (Some list) ≡ Ok n
+    → (is_student m row.student ≡ false) × (nat_le MOST_STUDENTS (length m.students) ≡ false) × (after m (Enter row.student row.zone row.siblings list.choices row.continuing) ≡ n)
+may-enter m n row list entered = by (verdict m (Enter row.student row.zone row.siblings list.choices row.continuing)) refl entered
+  where
+    by : (v : Option Refusal) → verdict m (Enter row.student row.zone row.siblings list.choices row.continuing) ≡ v
+        → unless_refused m (Enter row.student row.zone row.siblings list.choices row.continuing) v ≡ Ok n
+        → (is_student m row.student ≡ false) × (nat_le MOST_STUDENTS (length m.students) ≡ false) × (after m (Enter row.student row.zone row.siblings list.choices row.continuing) ≡ n)
+    by None is done =
+        let none = first_of-none (objections m (Enter row.student row.zone row.siblings list.choices row.continuing)) is in
+        (refuse_if-none (is_student m row.student) StudentExists none.0, refuse_if-none (nat_le MOST_STUDENTS (length m.students)) RosterFull none.1.1.1.1.1.1.1.1.1.0, cc)
+    by (Some r) is done = cc done
 
--- and the last one is not among them
-distinct-last : (ns : List ℕ) (n : ℕ) → IsDistinct nat_eq (ns ++ n ∷ []) → list_any (nat_eq n) ns ≡ false
-distinct-last ns n differ =
-    none-at n ns (λ k within.
-    let apart = apart_from_distinct nat_eq (ns ++ n ∷ []) k (length ns) 0 differ within (omega (arith, length_push ns n)) in
-    nat_eq_equiv.symm n (get_or ns k 0) ∙ rw (get_or_append_left ns (n ∷ []) 0 k within, get_or_at ns n [] 0 (length ns) refl) at apart)
+-- one student more is in them
+entered-more : (m n : Market) (row : RosterRow) (list : Option ListRow) → entered_by m row list ≡ Ok n → length n.students ≡ length m.students + 1
+entered-more m n row None entered = cc entered
+entered-more m n row (Some list) entered =
+    let same = (may-enter m n row list entered).2 in
+    rw (← same) (length_push m.students (row.student, record { zone = row.zone; siblings = row.siblings; choices = list.choices; continuing = row.continuing }))
+
+-- there is room for fewer students than before
+pub room-left : (n k : Market) (row : RosterRow) (list : ListRow) → entered_by n row (Some list) ≡ Ok k → MOST_STUDENTS - length k.students < MOST_STUDENTS - length n.students
+room-left n k row list entered =
+    let more = entered-more n k row (Some list) entered in
+    let room = (may-enter n k row list entered).1 in
+    let within : length n.students < MOST_STUDENTS = grind (arith, nat_tests) in
+    omega arith
+
+-- one student more has entered
+all_entered-push : (lists : List ListRow) (m n k : Market) (roster : List RosterRow) (row : RosterRow) → all_entered lists m roster ≡ Ok n
+    → entered_by n row (list_of lists row.student) ≡ Ok k → all_entered lists m (roster ++ row ∷ []) ≡ Ok k
+unfolding all_entered
+all_entered-push lists m n k [] row entered enters = let same : m ≡ n = cc entered in rw (same, enters) refl
+all_entered-push lists m n k (first ∷ rest) row entered enters =
+    by (entered_by m first (list_of lists first.student)) entered (λ j so_far. all_entered-push lists j n k rest row so_far enters)
+  where
+    by : (r : Result Market Cause) → (in_row Roster first.row r >>= λ j. all_entered lists j rest) ≡ Ok n
+        → ((j : Market) → all_entered lists j rest ≡ Ok n → all_entered lists j (rest ++ row ∷ []) ≡ Ok k)
+        → (in_row Roster first.row r >>= λ j. all_entered lists j (rest ++ row ∷ [])) ≡ Ok k
+    by (Ok j) done more = more j done
+    by (Err cause) done more = cc done
+
+-- a good record with a new number is one row more
+added-row : {R : Type 0} (most : ℕ) (number : R → ℕ) (read : ℕ → List (List ℕ) → Result R Cause) (width row : ℕ) (earlier : List R) (fields : List (List ℕ)) (found : R)
+    → nat_le most (length earlier) ≡ false → row_at read width row fields ≡ Ok found → list_any (nat_eq (number found)) (map number earlier) ≡ false
+    → added earlier (next_row_at most number read width row earlier fields) ≡ Ok (earlier ++ found ∷ [])
+added-row most number read width row earlier fields found room is new = rw (room, is, new) refl
 
 -- the reading goes on after a row, if its number is a new one
-pub row-more : {R : Type 0} (most : ℕ) (number : R → ℕ) (read : ℕ → List (List ℕ) → Result R Cause) (source : Source) (width : ℕ) (reading : Result (List R) IntakeFault) (rows : List R)
+row-more : {R : Type 0} (most : ℕ) (number : R → ℕ) (read : ℕ → List (List ℕ) → Result R Cause) (source : Source) (width : ℕ) (reading : Result (List R) IntakeFault) (rows : List R)
     (left rest : List (List (List ℕ))) (fields : List (List ℕ)) (row : R)
     → (IsDistinct nat_eq (map number rows) → reading ≡ rows_after 2 source (next_row most number read width) rows left)
     → left ≡ fields ∷ rest → length rows < most → row_at read width (length rows + 2) fields ≡ Ok row
@@ -56,14 +97,16 @@ pub row-more : {R : Type 0} (most : ℕ) (number : R → ℕ) (read : ℕ → Li
 row-more most number read source width reading rows left rest fields row so_far next room is differ =
     let numbers : IsDistinct nat_eq (map number rows ++ number row ∷ []) = rw (map-append number rows (row ∷ [])) at differ in
     let within : nat_le most (length rows) ≡ false = grind (arith, nat_tests) in
-    row-step 2 source (next_row most number read width) reading rows (rows ++ row ∷ []) left rest fields (so_far (distinct-first (map number rows) (number row) numbers)) next
-    (added-row most number read width (length rows + 2) rows fields row within is (distinct-last (map number rows) (number row) numbers))
+    let turned = IsDistinct-IsPermutation nat_eq nat_eq_equiv.symm _ _ (IsPermutation-to_front (map number rows) (number row)) numbers in
+    let new = list_any_none (nat_eq (number row)) (map number rows) (All-from_recursion _ (map number rows) (IsDistinct-head nat_eq (number row) (map number rows) turned)) in
+    row-step 2 source (next_row most number read width) reading rows (rows ++ row ∷ []) left rest fields (so_far (IsDistinct-tail nat_eq (number row) (map number rows) turned)) next
+    (added-row most number read width (length rows + 2) rows fields row within is new)
 
 any-push : (i n : ℕ) (ns : List ℕ) → (list_any (nat_eq i) ns || nat_eq i n) ≡ list_any (nat_eq i) (ns ++ n ∷ [])
 any-push i n ns = ap (λ (b : Bool). list_any (nat_eq i) ns || b) (or-false (nat_eq i n)) ∙ sym (list_any-append (nat_eq i) ns (n ∷ []))
 
--- different numbers that are all among as many others are those others, which are different too
-module _ (xs ys : List ℕ) (differ : IsDistinct nat_eq xs) (among : (i : ℕ) → list_any (nat_eq i) xs ≡ true → list_any (nat_eq i) ys ≡ true) (many : length xs ≡ length ys) where
+-- different numbers that are all among no more others are those others, which are different too
+module _ (xs ys : List ℕ) (differ : IsDistinct nat_eq xs) (among : (i : ℕ) → list_any (nat_eq i) xs ≡ true → list_any (nat_eq i) ys ≡ true) (many : length ys ≤ length xs) where
   no-others : (i : ℕ) → list_any (nat_eq i) ys ≡ true → list_any (nat_eq i) xs ≡ true
   no-others i there = elim (cases_Bool (list_any (nat_eq i) xs)) [
     | inl is ↦ is
@@ -84,7 +127,9 @@ module _ (xs ys : List ℕ) (differ : IsDistinct nat_eq xs) (among : (i : ℕ) �
   ]
 
   others-differ : IsDistinct nat_eq ys
-  others-differ = IsDistinct-from_count nat_eq_equiv ys (sym (length-from_keys nat_eq_equiv xs ys differ same-members) ∙ many)
+  others-differ =
+      let as_many : length xs ≡ length ys = omega (arith, many, length-le_from_is_member nat_eq_equiv xs ys differ among) in
+      IsDistinct-from_count nat_eq_equiv ys (sym (length-from_keys nat_eq_equiv xs ys differ same-members) ∙ as_many)
 
 -- a row of the lists is this one
 pub record IsRow (width : ℕ) (lists : List (List (List ℕ))) (k : ℕ) (list : ListRow) : Type 0 where
@@ -237,9 +282,15 @@ AreEntered-more width list_width roster lists m left rest n k row line lists_lef
           all_entered-push rows m n k are.earlier row (are.entered rows have differ) (rw has next.entered);
     }
 
+-- where each list is the next one, the lists after it are left
+pub left-after_next : (list_width : ℕ) (lists lists_left : List (List (List ℕ))) (n k : Market) (row : RosterRow)
+    → EntersNext list_width (length n.students + 2) (drop (length n.students) lists) lists_left n row k → lists_left ≡ drop (length k.students) lists
+left-after_next list_width lists lists_left n k row next =
+    rw (entered-more n k row (Some next.list) next.entered, add-one) (left-after list_width lists (length n.students) next.list (record { left = lists_left; takes = next.takes }))
+
 -- all entered, and no list is left
 pub AreEntered-all : (width list_width : ℕ) (roster lists : List (List (List ℕ))) (m : Market) (left : List (List (List ℕ))) (n : Market)
-    → AreEntered width list_width roster lists m left n → left ≡ [] → length n.students ≡ length lists → Fill width list_width roster lists m n
+    → AreEntered width list_width roster lists m left n → left ≡ [] → length lists ≤ length n.students → Fill width list_width roster lists m n
 AreEntered-all width list_width roster lists m left n are end many =
     let all : (j : ℕ) → j < length lists → (list : ListRow) × IsRow list_width lists j list = λ j below. elim (cases_Bool (list_any (nat_eq j) are.lines)) [
       | inl there ↦ let (list, is, known) = are.used j there in (list, is)
@@ -249,9 +300,9 @@ AreEntered-all width list_width roster lists m left n are end many =
             | inl before ↦ let (list, is, known) = are.used q before in row-within list_width lists q list is
             | inr last ↦ rw (eqb-true q j last) below
           ]) in
-          absurd (omega (arith, are.counted, are.as_many, length_push are.lines j))
+          absurd (omega (arith, many, are.counted, are.as_many, length_push are.lines j))
     ] in
-    let whole = rows-to list_width lists all (omega (arith, are.counted, are.few)) (length lists) (omega arith) in
+    let whole = rows-to list_width lists all (omega (arith, many, are.counted, are.few)) (length lists) (omega arith) in
     let rows = whole.rows in
     let have : HaveRows list_width lists rows = λ k list is. let below = row-within list_width lists k list is in (omega (arith, whole.many), whole.each k list below is) in
     let roster_numbers = map roster_number are.earlier in
@@ -260,10 +311,10 @@ AreEntered-all width list_width roster lists m left n are end many =
     let (below, found) = have k list is in
     let number : get_or (map list_number rows) k 0 ≡ i = get_or-map list_number rows k list 0 below ∙ ap list_number found ∙ same in
     list_any_at (nat_eq i) (map list_number rows) k 0 (rw (length-map rows list_number) below) (rw number (same-number i)) in
-    let same_length : length roster_numbers ≡ length (map list_number rows) =
-    length-map are.earlier roster_number ∙ sym are.counted ∙ many ∙ sym whole.many ∙ sym (length-map rows list_number) in
-    let differ = others-differ roster_numbers (map list_number rows) are.different among same_length in
-    let known = none-missing are.earlier rows (λ i there. in-numbers are.earlier i ∙ no-others roster_numbers (map list_number rows) are.different among same_length i there) in
+    let no_more : length (map list_number rows) ≤ length roster_numbers =
+    omega (arith, many, are.counted, whole.many, length-map are.earlier roster_number, length-map rows list_number) in
+    let differ = others-differ roster_numbers (map list_number rows) are.different among no_more in
+    let known = none-missing are.earlier rows (λ i there. in-numbers are.earlier i ∙ no-others roster_numbers (map list_number rows) are.different among no_more i there) in
     record {
       roster_rows = are.earlier;
       list_rows = rows;
