@@ -2,9 +2,7 @@
 use Rattle.std.proofs.Common.{◌≡◌, ℕ, ◌+◌, true, false, List, [], ◌∷◌, length, Option, Some, inl, refl, sym, ap, ◌∙◌}
 use Rattle.std.specs.Prelude.{Bool, MatchBool}
 use Rattle.std.specs.Borrow.{Bor}
-use Rattle.csv.specs.Reading.{ExplainsRead, Reached, ReadRecord, stops_reader, default_config, is_flexible, reader_state, records_from, took_first}
-use Rattle.csv.specs.declared.error.ErrorKind.{ErrorKind}
-use Rattle.csv.specs.declared.error.ErrorKind.TheVariants as kind
+use Rattle.csv.specs.Reading.{Reached, ReadRecord, default_config, is_flexible, reader_state, records_from, took_first}
 use Rattle.csv.specs.declared.parser.State.{State}
 use Rattle.csv.specs.declared.reader.Reader.{Reader}
 use Rattle.csv.proofs.ReadFacts.{rows-end, rows-more}
@@ -52,13 +50,3 @@ pub read-answers : (found : Bool) (a b : Reader (Bor (List ℕ))) (f : List (Lis
     → MatchBool found (Moves a b f) (records_of (reader_state a) (unread a) ≡ [])
 read-answers true a b f old read first flexible = read-moves a b f old read first flexible
 read-answers false a b f old read first flexible = read-ends a b f old read
-
--- an error of a flexible reader of bytes stops it
-pub explains-stops : (a b : Reader (Bor (List ℕ))) (k : ErrorKind) → is_flexible a ≡ true → ExplainsRead (λ text. Some text.now) a b false k
-    → stops_reader k ≡ true
-explains-stops a b (kind.Io e) flexible why = refl
-explains-stops a b (kind.Utf8 pos e) flexible why = cc why.0
-explains-stops a b (kind.UnequalLengths pos expected len) flexible why = let not : is_flexible a ≡ false = why.0 in cc
-explains-stops a b (kind.Serialize text) flexible why = absurd why
-explains-stops a b (kind.Deserialize pos e) flexible why = absurd why
-explains-stops a b kind.OutOfMemory flexible why = refl

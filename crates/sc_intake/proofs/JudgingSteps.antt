@@ -1,16 +1,13 @@
 -- One row more, in judging.
-use Rattle.std.proofs.Common.{◌≡◌, ℕ, ◌+◌, ◌<◌, ◌≤◌, Bool, true, false, ◌||◌, nat_eq, List, [], ◌∷◌, ◌++◌, length, map, get_or, take, drop, refl, sym, ap, ◌∙◌, Ok, append_assoc, append-nil, Err, Option, None, Some}
+use Rattle.std.proofs.Common.{◌≡◌, ℕ, ◌+◌, ◌<◌, ◌≤◌, List, [], ◌∷◌, ◌++◌, length, get_or, take, drop, refl, sym, ap, ◌∙◌, Ok, append_assoc, append-nil, Err, Option, None, Some}
 use Rattle.std.specs.Prelude.{Result, flat_map}
-use Rattle.std.specs.List.{list_any}
 use Rattle.std.proofs.lemmas.Grind.{flat_map-append}
-use Rattle.std.proofs.lemmas.List.Folds.{list_any-append}
-use Rattle.std.proofs.lemmas.List.{at_drop_all, at_drop_more, map-append, take_more}
+use Rattle.std.proofs.lemmas.List.{at_drop_all, at_drop_more, take_more}
 use Rattle.sc_papers.specs.Market.{Market}
 use Rattle.sc_intake.specs.Checking.{Judged, fault_of, judged_from, known_from, named_school, script_faults_from, students_judged, unjudged, with_known, with_row}
 use Rattle.sc_intake.specs.Fault.{fault_at}
 use Rattle.sc_intake.specs.Papers.{entered_by, list_of}
 use Rattle.sc_intake.specs.Rows.{added}
-use Rattle.sc_intake.specs.Seen.{AreNumbers}
 use Rattle.sc_intake.specs.Sheets.{cause_in}
 use Rattle.sc_intake.specs.Script.{stamped_of}
 use Rattle.sc_intake.specs.Sheets.{with_told}
@@ -84,23 +81,6 @@ pub student-end : (lists : List ListRow) (whole so_far : Judged Market) (roster 
     → whole ≡ students_judged lists so_far (drop i roster) → length roster ≤ i → so_far ≡ whole
 unfolding students_judged
 student-end lists whole so_far roster i so past = sym (so ∙ at_drop_all (students_judged lists so_far) roster i past)
-
--- a row's number more
-pub AreNumbers-more : {R : Type 0} (number : R → ℕ) (rows : List R) (i : ℕ) (row : R) (old new : List ℕ) → AreNumbers number (take i rows) old
-    → i < length rows → row ≡ get_or rows i row
-    → ((n : ℕ) → list_any (nat_eq n) new ≡ (nat_eq n (number row) || list_any (nat_eq n) old))
-    → AreNumbers number (take (i + 1) rows) new
-AreNumbers-more number rows i row old new are within at more = λ n.
-    more n ∙ ap (λ b. nat_eq n (number row) || b) (are n)
-    ∙ turned (nat_eq n (number row)) (list_any (nat_eq n) (map number (take i rows)))
-    ∙ sym (ap (list_any (nat_eq n)) (ap (map number) (take_more rows i row within ∙ ap (λ r. take i rows ++ r ∷ []) (sym at)) ∙ map-append number (take i rows) (row ∷ []))
-    ∙ list_any-append (nat_eq n) (map number (take i rows)) (number row ∷ []))
-  where
-    turned : (a b : Bool) → (a || b) ≡ (b || (a || false))
-    turned true true = refl
-    turned true false = refl
-    turned false true = refl
-    turned false false = refl
 
 -- a list more
 pub lists-more : (f : ListRow → List IntakeFault) (before now later : List IntakeFault) (lists : List ListRow) (i : ℕ) (list : ListRow)

@@ -18,7 +18,6 @@ use Rattle.sc_papers.specs.Verdict.{IsRefusal, IsSchoolRefusal, after, school_ve
 use Rattle.sc_papers.specs.declared.amendment.Amendment.{Amendment}
 use Rattle.sc_papers.specs.declared.amendment.Amendment.TheVariants.{Enter}
 use Rattle.sc_papers.specs.declared.amendment.Refusal.{Refusal}
-use Rattle.sc_papers.specs.declared.amendment.Refusal.TheVariants.{Shape, UnknownStudent, StudentExists, EmptyList, ListTooLong, UnknownSchool, SchoolTwice, RosterFull, TooManySeats, TooFewSeats, OutOfMemory as no_room, Stale, Spent}
 use Rattle.sc_intake.specs.Fault.{◌>>=◌, IsFault, fault_at, no_memory}
 use Rattle.sc_intake.specs.File.{in_row}
 use Rattle.sc_intake.specs.Lists.{list_number}
@@ -29,7 +28,7 @@ use Rattle.sc_papers.specs.declared.school_refusal.SchoolRefusal.{SchoolRefusal}
 use Rattle.sc_papers.specs.declared.school_refusal.SchoolRefusal.TheVariants.{OutOfMemory as no_memory_there}
 use Rattle.sc_intake.specs.Papers.{all_entered, amended, cause_of, entered_by, filled, list_of, opening, first_not_in_roster, unless_refused, is_in_roster, unknown_list}
 use Rattle.sc_intake.specs.declared.fault.Cause.{Cause}
-use Rattle.sc_intake.specs.declared.fault.Cause.TheVariants.{NotInRoster, OutOfMemory, Refused}
+use Rattle.sc_intake.specs.declared.fault.Cause.TheVariants.{NotInRoster, OutOfMemory}
 use Rattle.sc_intake.specs.declared.fault.IntakeFault.{IntakeFault}
 use Rattle.sc_intake.specs.declared.fault.Source.TheVariants.{Lists, Roster}
 use Rattle.sc_intake.specs.declared.lists.ListRow.{ListRow}
@@ -112,22 +111,6 @@ pub enter-end : (lists : List ListRow) (reading : Result Market IntakeFault) (m 
     → reading ≡ all_entered lists m (drop i roster) → length roster ≤ i → reading ≡ Ok m
 unfolding all_entered
 enter-end lists reading m roster i so_far past = so_far ∙ at_drop_all (all_entered lists m) roster i past
-
--- a refusal other than want of memory is the cause itself
-pub cause_of-other : (r : Refusal) → (r ≡ no_room → ⊥) → cause_of r ≡ Refused r
-cause_of-other no_room other = absurd (other refl)
-cause_of-other Shape other = refl
-cause_of-other UnknownStudent other = refl
-cause_of-other StudentExists other = refl
-cause_of-other EmptyList other = refl
-cause_of-other ListTooLong other = refl
-cause_of-other (UnknownSchool s) other = refl
-cause_of-other (SchoolTwice s) other = refl
-cause_of-other RosterFull other = refl
-cause_of-other TooManySeats other = refl
-cause_of-other TooFewSeats other = refl
-cause_of-other (Stale stamp) other = refl
-cause_of-other Spent other = refl
 
 -- the error of an amendment is the refusal's cause, or want of memory
 pub amended-refused : (m : Market) (a : Amendment) (r : Refusal) → IsRefusal (verdict m a) r → IsFault OutOfMemory (amended m a) (cause_of r)

@@ -106,10 +106,6 @@ pub record SchoolsBefore (text rest schools : List ℕ) : Type 0 where
   pub numbers : (w : List ℕ) → numbers_in (part ++ w) ≡ numbers_after schools (words w)
   pub ranged : list_all (is_within 1 greatest_school) schools ≡ true
 
--- none at its front
-pub schools-none : (text : List ℕ) → SchoolsBefore text text []
-schools-none text = record { part = []; cut = refl; clean = refl; begins = λ w none. none; numbers = λ w. refl; ranged = refl }
-
 -- a school more, and a space
 pub schools-more : (text rest more old new : List ℕ) (n : ℕ) → SchoolsBefore text rest old → TakesNumber rest (32 ∷ more) n → is_within 1 greatest_school n ≡ true → new ≡ old ++ n ∷ []
     → SchoolsBefore text more new

@@ -16,9 +16,6 @@ pub record AddsFields (old new : List ℕ) (fields : List (List ℕ)) : Type 0 w
   pub line : (rest : List ℕ) → fields_from [] (first_line (part ++ rest)) ≡ fields ++ fields_from [] (first_line rest)
   pub after : (rest : List ℕ) → after_line (part ++ rest) ≡ after_line rest
 
-pub AddsFields-none : (text : List ℕ) → AddsFields text text []
-AddsFields-none text = record { part = []; added = sym (append-nil text); line = λ rest. refl; after = λ rest. refl }
-
 -- a field and its end stand between what was written and what comes after
 written-on : (part field : List ℕ) (end : ℕ) (rest : List ℕ) → (part ++ (field ++ end ∷ [])) ++ rest ≡ part ++ (field ++ end ∷ rest)
 written-on part field end rest = append_assoc part (field ++ end ∷ []) rest ∙ ap (λ (t : List ℕ). part ++ t) (append_assoc field (end ∷ []) rest)
@@ -67,9 +64,6 @@ pub record AreWritten (text : List ℕ) (records left : List (List (List ℕ))) 
   pub written : List (List (List ℕ))
   pub cut : records ≡ written ++ left
   pub reads : (rest : List ℕ) → plain_records (text ++ rest) ≡ written ++ plain_records rest
-
-pub AreWritten-none : (records : List (List (List ℕ))) → AreWritten [] records records
-AreWritten-none records = record { written = []; cut = refl; reads = λ rest. refl }
 
 -- a record more
 pub AreWritten-more : (old new : List ℕ) (records left rest : List (List (List ℕ))) (fields : List (List ℕ)) → AreWritten old records left → left ≡ fields ∷ rest → AddsLine old new fields

@@ -3,12 +3,9 @@ use Rattle.std.proofs.lemmas.List.{take_more_set}
 use Rattle.sc_papers.specs.declared.school_no.TheConstants.SchoolNo.{GREATEST as greatest_school}
 use Rattle.sc_intake.specs.Field.{is_within}
 use Rattle.sc_intake.specs.Tidy.{TakesNumber}
-use Rattle.sc_intake.proofs.TidyFields.{schools-last, schools-more, schools-none}
+use Rattle.sc_intake.proofs.TidyFields.{schools-last, schools-more}
 use Rattle.sc_intake.proofs.TidyLines.{begins-with}
 use Rattle.sc_intake.proofs.tidy_rows.take_schools.Goals as goal
-
-pub loop-count-init : goal.loop-count-init
-loop-count-init c = schools-none c.args.text.now
 
 pub loop-count-preserved : goal.loop-count-preserved
 loop-count-preserved c =

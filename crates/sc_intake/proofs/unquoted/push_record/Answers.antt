@@ -3,11 +3,8 @@ use Rattle.std.specs.List.{list_any}
 use Rattle.std.proofs.lemmas.List.{length-take-le, take_all}
 use Rattle.csv.specs.Records.{field_at}
 use Rattle.sc_intake.specs.Plain.{ends_field}
-use Rattle.sc_intake.proofs.Unquoting.{AddsFields-more, AddsFields-none, AddsLine-last, fields-taken}
+use Rattle.sc_intake.proofs.Unquoting.{AddsFields-more, AddsLine-last, fields-taken}
 use Rattle.sc_intake.proofs.unquoted.push_record.Goals as goal
-
-pub fields-init : goal.fields-init
-fields-init c = AddsFields-none c.args.text.now.items
 
 pub fields-preserved : goal.fields-preserved
 fields-preserved c =

@@ -1,13 +1,8 @@
 use Rattle.std.proofs.Common.{◌≡◌, ◌∷◌, [], rules}
 use Rattle.sc_intake.specs.Cursor.{ReadsNext}
 use Rattle.sc_intake.specs.Unquoted.{AddsLine}
-use Rattle.sc_intake.proofs.Unquoting.{AreWritten-all, AreWritten-more, AreWritten-none}
+use Rattle.sc_intake.proofs.Unquoting.{AreWritten-all, AreWritten-more}
 use Rattle.sc_intake.proofs.unquoted.unquoted.Goals as goal
-
-pub records-init : goal.records-init
-records-init c =
-    let none : c.in_ok-text.text.items ≡ [] = search rules in
-    rw none (AreWritten-none c.args.records.now.left)
 
 pub records-preserved : goal.records-preserved
 records-preserved c =
