@@ -1,13 +1,11 @@
 -- A line cut off, and its fields counted and looked for.
-use Rattle.std.proofs.Common.{◌≡◌, ℕ, zero, suc, ◌+◌, ◌-◌, ◌<◌, ◌≤◌, ◌==◌, true, false, List, [], ◌∷◌, ◌++◌, length, take, drop, get_or, inl, inr, refl, sym, ap, ◌∙◌, append_assoc, append-nil, arith, Some, None}
+use Rattle.std.proofs.Common.{◌≡◌, ℕ, zero, suc, ◌+◌, ◌<◌, ◌==◌, true, false, List, [], ◌∷◌, ◌++◌, length, take, drop, inl, inr, refl, sym, ap, ◌∙◌, append_assoc, append-nil, arith}
 use Rattle.std.specs.Prelude.{slice_get, slice_index}
-use Rattle.std.specs.Borrow.{Bor}
 use Rattle.std.specs.List.{count_by, onto_first, slice_split}
 use Rattle.std.proofs.lemmas.Bool.{cases_Bool}
 use Rattle.std.proofs.lemmas.List.Splits.{length-slice_split, slice_split-cons_no, slice_split-cons_yes}
 use Rattle.csv.specs.Records.{field_at}
 use Rattle.sc_intake.specs.Plain.{after_line, ends_line, fields_from, first_line}
-use Rattle.sc_intake.specs.Representation.{fields_in}
 
 -- what the first line is, and what stands after it
 pub record IsLine (text before after : List ℕ) : Type 0 where
@@ -80,26 +78,3 @@ unfolding field_at
 field-get [] index = refl
 field-get (field ∷ rest) zero = refl
 field-get (field ∷ rest) (suc index) = field-get rest index
-
--- a field that is kept
-pub field-kept : (slices : List (Bor (List ℕ))) (beyond : List (List ℕ)) (index : ℕ) (d : Bor (List ℕ)) → index < length slices
-    → field_at (fields_in slices ++ beyond) index ≡ Some (get_or slices index d).now
-unfolding field_at
-field-kept [] beyond index d within = absurd (omega arith)
-field-kept (s ∷ ss) beyond zero d within = refl
-field-kept (s ∷ ss) beyond (suc index) d within = field-kept ss beyond index d (omega arith)
-
--- a field beyond those that are kept
-pub field-beyond : (slices : List (Bor (List ℕ))) (beyond : List (List ℕ)) (index : ℕ) → length slices ≤ index
-    → field_at (fields_in slices ++ beyond) index ≡ field_at beyond (index - length slices)
-unfolding field_at
-field-beyond [] beyond index past = let same : index ≡ index - 0 = omega arith in ap (field_at beyond) same
-field-beyond (s ∷ ss) beyond zero past = absurd (omega arith)
-field-beyond (s ∷ ss) beyond (suc index) past =
-    let same : index - length ss ≡ suc index - length (s ∷ ss) = omega arith in
-    field-beyond ss beyond index (omega arith) ∙ ap (field_at beyond) same
-
--- no field is beyond the last
-pub field-none : (index : ℕ) → field_at [] index ≡ None
-unfolding field_at
-field-none index = refl

@@ -1,12 +1,9 @@
 -- The records of a text without a quote, line by line and field by field.
-use Rattle.std.proofs.Common.{◌≡◌, ℕ, ◌-◌, ◌<◌, ◌≤◌, ◌==◌, Bool, true, false, List, [], ◌∷◌, ◌++◌, length, map, take, drop, get_or, refl, sym, ap, ◌∙◌, append_assoc, arith, cond}
-use Rattle.std.specs.Borrow.{Bor}
-use Rattle.std.proofs.lemmas.List.{map-append, take_rest}
+use Rattle.std.proofs.Common.{◌≡◌, ℕ, ◌==◌, Bool, true, false, List, [], ◌∷◌, ◌++◌, length, map, refl, sym, ap, ◌∙◌, append_assoc, cond}
 use Rattle.std.specs.List.{list_any}
 use Rattle.std.proofs.lemmas.Bool.{or_parts}
 use Rattle.std.proofs.lemmas.List.{append-nil}
-use Rattle.sc_intake.specs.Plain.{EndsField, after_line, ends_field, ends_line, fields_from, first_line, line_of, lines_from, plain_records}
-use Rattle.sc_intake.specs.Representation.{fields_in}
+use Rattle.sc_intake.specs.Plain.{after_line, ends_field, ends_line, fields_from, first_line, line_of, lines_from, plain_records}
 
 -- the first line, and those after it
 pub lines-first : (line text : List ℕ) → lines_from line text ≡ line_of (line ++ first_line text) ++ lines_from [] (after_line text)
@@ -75,46 +72,6 @@ pub fields-next : (piece : List ℕ) (rest : List ℕ) → list_any ends_field p
 unfolding fields_from first_line
 fields-next piece rest clean =
     ap (fields_from []) (first_line-more piece (44 ∷ rest) clean) ∙ fields-more [] piece (44 ∷ first_line rest) clean
-
--- a field, and what a text is after it
-module _ (text field after : List ℕ) (cut : text ≡ field ++ after) (clean : list_any ends_field field ≡ false) where
-  -- at a comma another field follows
-  pub at-comma : 1 ≤ length after → get_or after 0 0 ≡ 44
-      → (fields_from [] (first_line text) ≡ field ∷ fields_from [] (first_line (take (length after - 1) (drop 1 after))))
-      × (after_line text ≡ after_line (take (length after - 1) (drop 1 after)))
-  unfolding after_line
-  at-comma some comma = rw (cut, take_rest after 1) (by after some comma)
-    where
-      by : (rest : List ℕ) → 1 ≤ length rest → get_or rest 0 0 ≡ 44
-          → (fields_from [] (first_line (field ++ rest)) ≡ field ∷ fields_from [] (first_line (drop 1 rest))) × (after_line (field ++ rest) ≡ after_line (drop 1 rest))
-      by [] some comma = absurd (omega arith)
-      by (c ∷ cs) some comma = rw comma (fields-next field cs clean, after_line-more field (44 ∷ cs) clean)
-
-  -- a line end ends the line
-  pub at-line_end : EndsField after → 1 ≤ length after → (get_or after 0 0 == 44) ≡ false
-      → (fields_from [] (first_line text) ≡ field ∷ []) × (after_line text ≡ take (length after - 1) (drop 1 after))
-  unfolding first_line after_line
-  at-line_end end some other = rw (cut, take_rest after 1) (by after end some other)
-    where
-      by : (rest : List ℕ) → EndsField rest → 1 ≤ length rest → (get_or rest 0 0 == 44) ≡ false
-          → (fields_from [] (first_line (field ++ rest)) ≡ field ∷ []) × (after_line (field ++ rest) ≡ drop 1 rest)
-      by [] end some other = absurd (omega arith)
-      by (c ∷ cs) end some other =
-          let line : ends_line c ≡ true = rw other at end in
-          (fields-last field (c ∷ cs) clean (rw line refl), after_line-more field (c ∷ cs) clean ∙ rw line refl)
-
-  -- so does the end of the text
-  pub at-end : length after < 1 → (fields_from [] (first_line text) ≡ field ∷ []) × (after_line text ≡ after)
-  unfolding first_line after_line
-  at-end none = rw cut (by after none)
-    where
-      by : (rest : List ℕ) → length rest < 1 → (fields_from [] (first_line (field ++ rest)) ≡ field ∷ []) × (after_line (field ++ rest) ≡ rest)
-      by [] none = (fields-last field [] clean refl, after_line-more field [] clean)
-      by (c ∷ cs) none = absurd (omega arith)
-
--- a field more, as a slice
-pub fields_in-push : (slices : List (Bor (List ℕ))) (slice : Bor (List ℕ)) → fields_in (slices ++ slice ∷ []) ≡ fields_in slices ++ slice.now ∷ []
-fields_in-push slices slice = map-append (λ (s : Bor (List ℕ)). s.now) slices (slice ∷ [])
 
 -- the record, where a text begins with a byte that ends no line
 pub records-line : (text : List ℕ) → (length text == 0) ≡ false → ((c : ℕ) (cs : List ℕ) → text ≡ c ∷ cs → ends_line c ≡ false)

@@ -1,6 +1,6 @@
 -- csv's machine cuts a text line by line, as far as these have no quote: so do both ways of cutting.
 use Rattle.std.proofs.Common.{◌≡◌, ℕ, zero, suc, ◌+◌, ◌<◌, ◌≤◌, ◌==◌, ◌||◌, Bool, true, false, List, [], ◌∷◌, ◌++◌, length, inl, inr, refl, sym, ap, ◌∙◌, append_assoc, add-one, arith, cond, Some, None}
-use Rattle.std.specs.Prelude.{MatchBool, drop, slice_index}
+use Rattle.std.specs.Prelude.{drop, slice_index}
 use Rattle.std.proofs.lemmas.Bool.{cases_Bool, false_from_ne_true, or_parts}
 use Rattle.std.proofs.lemmas.Bool.Decides.{nat_tests}
 use Rattle.csv.specs.Machine.{ends_at_end, field_after, fields_after, in_field, is_end, next_record, step}
@@ -233,12 +233,6 @@ unstripped (a ∷ []) unmarked = refl
 unstripped (a ∷ b ∷ []) unmarked = refl
 unstripped (a ∷ b ∷ c ∷ rest) unmarked = rw unmarked refl
 
--- a line is one line
-line-alone : (text : List ℕ) → (first_line (first_line text) ≡ first_line text) × (after_line (first_line text) ≡ [])
-unfolding first_line after_line
-line-alone [] = (refl, refl)
-line-alone (c ∷ cs) = elim (cases_Bool (ends_line c)) [ inl end ↦ rw end (refl, refl) | inr other ↦ let more = line-alone cs in rw (other, other, more.0) (refl, more.1) ]
-
 -- a line cut off: what comes after it begins with its line end
 pub line-off : (text : List ℕ) → (length (first_line text) ≤ length text) × (first_line (drop (length (first_line text)) text) ≡ [])
     × (after_line (drop (length (first_line text)) text) ≡ after_line text)
@@ -249,46 +243,18 @@ line-off (c ∷ cs) = elim (cases_Bool (ends_line c)) [
   | inr other ↦ let more = line-off cs in rw other (omega arith, more.1, more.2)
 ]
 
-line-begins : (c : ℕ) (cs : List ℕ) → ends_line c ≡ false → first_line (c ∷ cs) ≡ c ∷ first_line cs
-unfolding first_line
-line-begins c cs other = rw other refl
+-- the first line is a record of csv's, where it has no quote, and the text from its line end on is left
+pub line-read : (text : List ℕ) → (length text == 0) ≡ false → ((c : ℕ) (cs : List ℕ) → text ≡ c ∷ cs → ends_line c ≡ false) → has_quote (first_line text) ≡ false
+    → records default_config text ≡ fields_from [] (first_line text) ∷ records default_config (drop (length (first_line text)) text)
+line-read [] some begins plain = cc some
+line-read (c ∷ cs) some begins plain =
+    let rest : List ℕ = drop (length (first_line (c ∷ cs))) (c ∷ cs) in
+    let off = line-off (c ∷ cs) in
+    cut-first false c cs (begins c cs refl) plain
+    ∙ ap (λ (rs : List (List (List ℕ))). fields_from [] (first_line (c ∷ cs)) ∷ rs) (ap (records default_config) (sym off.2) ∙ sym (cut-ended rest off.1 false))
 
--- it is one record, of its fields
-line-records : (c : ℕ) (cs : List ℕ) → ends_line c ≡ false → plain_records (first_line (c ∷ cs)) ≡ fields_from [] (first_line (c ∷ cs)) ∷ []
-line-records c cs other =
-    let parts = line-alone (c ∷ cs) in
-    let read : plain_records (first_line (c ∷ cs)) ≡ fields_from [] (first_line (first_line (c ∷ cs))) ∷ plain_records (after_line (first_line (c ∷ cs))) =
-    rw (line-begins c cs other) (records-first c (first_line cs) other) in
-    rw (parts.0, parts.1, records-none) at read
-
--- what a read of the first line alone finds is what csv finds in the whole text, where the line has no quote
-pub line-read : (text : List ℕ) (found : Bool) (current : List (List ℕ)) (left : List (List (List ℕ)))
-    → ((c : ℕ) (cs : List ℕ) → text ≡ c ∷ cs → ends_line c ≡ false) → has_quote (first_line text) ≡ false
-    → MatchBool found (plain_records (first_line text) ≡ current ∷ left) (plain_records (first_line text) ≡ [])
-    → MatchBool found (records default_config text ≡ current ∷ records default_config (drop (length (first_line text)) text)) (records default_config text ≡ [])
-unfolding records_from next_record first_line
-line-read [] true current left first plain read = cc (sym read ∙ records-none)
-line-read [] false current left first plain read = refl
-line-read (c ∷ cs) found current left first plain read = by found read
-  where
-    text : List ℕ
-    text = c ∷ cs
-
-    rest : List ℕ
-    rest = drop (length (first_line text)) text
-
-    other : ends_line c ≡ false
-    other = first c cs refl
-
-    whole : records default_config text ≡ fields_from [] (first_line text) ∷ records default_config rest
-    whole =
-        let off = line-off text in
-        cut-first false c cs other plain ∙ ap (λ (rs : List (List (List ℕ))). fields_from [] (first_line text) ∷ rs) (ap (records default_config) (sym off.2) ∙ sym (cut-ended rest off.1 false))
-
-    by : (b : Bool) → MatchBool b (plain_records (first_line text) ≡ current ∷ left) (plain_records (first_line text) ≡ [])
-        → MatchBool b (records default_config text ≡ current ∷ records default_config rest) (records default_config text ≡ [])
-    by true read =
-        let both : fields_from [] (first_line text) ∷ [] ≡ current ∷ left = sym (line-records c cs other) ∙ read in
-        let same : fields_from [] (first_line text) ≡ current = cc both in
-        whole ∙ ap (λ (fields : List (List ℕ)). fields ∷ records default_config rest) same
-    by false read = let none : fields_from [] (first_line text) ∷ [] ≡ [] = sym (line-records c cs other) ∙ read in cc none
+-- an empty text has no record of csv's
+pub csv-none : (text : List ℕ) → length text ≡ 0 → records default_config text ≡ []
+unfolding records_from next_record
+csv-none [] empty = refl
+csv-none (c ∷ cs) empty = cc empty

@@ -1,6 +1,6 @@
 -- What a text without a quote is cut into: each line that has a byte is a record, whose fields stand between commas.
 -- Contracts of readers see the records of `csv`: this is what their proofs go by, and how a fault's text finds a field.
-use Rattle.std.specs.Prelude.{◌≡◌, ℕ, ◌==◌, Bool, true, false, ◌||◌, List, [], ◌∷◌, ◌++◌, map, if◌then◌else◌, ⊤}
+use Rattle.std.specs.Prelude.{ℕ, ◌==◌, Bool, true, false, ◌||◌, List, [], ◌∷◌, ◌++◌, map, if◌then◌else◌}
 use Rattle.std.specs.List.{list_any}
 use Rattle.csv.specs.Reading.{default_config, records}
 use Rattle.memchr.specs.Find.{is_byte}
@@ -54,8 +54,3 @@ ends_field c = c == 44 || ends_line c
 -- a quote, a comma and a line end are no bytes of a field that stands as it is
 abbrev pub is_mark : ℕ → Bool
 is_mark c = c == 34 || ends_field c
-
--- a text is empty, or begins with a byte that ends a field
-abbrev pub EndsField : List ℕ → Type 0
-EndsField [] = ⊤
-EndsField (c ∷ cs) = ends_field c ≡ true

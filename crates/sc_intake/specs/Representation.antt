@@ -1,5 +1,5 @@
 -- How the readers of records keep where they stand in a text. Other contracts see the cursor alone.
-use Rattle.std.specs.Prelude.{◌≡◌, ℕ, true, false, Box, List, [], ◌++◌, Option, None, Some, map}
+use Rattle.std.specs.Prelude.{◌≡◌, ℕ, true, false, Box, List, [], Option, None, Some}
 use Rattle.std.specs.Global.{Global}
 use Rattle.std.specs.Borrow.{Bor}
 use Rattle.csv.specs.Reading.{default_config, reader_state, records, strip_bom}
@@ -34,19 +34,10 @@ quoted_cursor_of i = record {
 abbrev pub IsSound : quoted.Inside → Type 0
 IsSound i = i.stopped ≡ false → ReadsOn i.reader
 
--- the fields that slices of a text are
-abbrev pub fields_in : List (Bor (List ℕ)) → List (List ℕ)
-fields_in slices = map (λ s. s.now) slices
-
--- the fields beyond those that are kept: those of the rest of the line, where it has more
-abbrev pub fields_beyond : Option (Bor (List ℕ)) → List (List ℕ)
-fields_beyond None = []
-fields_beyond (Some line) = fields_from [] line.now
-
 -- the cursor in a text without a quote
 abbrev pub plain_cursor_of : plain.Inside → Cursor
-plain_cursor_of i = record { current = fields_in i.fields.items ++ fields_beyond i.beyond; left = plain_records i.rest.now; by_lines = true }
+plain_cursor_of i = record { current = fields_from [] i.line.now; left = plain_records i.rest.now; by_lines = true }
 
 -- the cursor in a text of which nobody has looked yet whether it has a quote
 abbrev pub line_cursor_of : lines.Inside → Cursor
-line_cursor_of i = record { current = i.line.current; left = records default_config i.rest.now; by_lines = false }
+line_cursor_of i = record { current = fields_from [] i.line.now; left = records default_config i.rest.now; by_lines = false }

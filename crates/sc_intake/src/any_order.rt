@@ -63,7 +63,7 @@ fn enter_each(
 {
     let mut list = Below {
         width,
-        records: Records::none(alloc),
+        records: Records::none(),
     };
     let mut placed = PlacedChoices::new();
     'rows: loop {
@@ -83,7 +83,7 @@ fn enter_each(
         let Some(text) = lists.from(*line as usize) else {
             return false;
         };
-        list.records.go_on_by_lines(alloc, text);
+        list.records.go_on_by_lines(text);
         if !enter_next(alloc, *line as u64 + 2, papers, row, &mut list, &mut placed) {
             return false;
         }
@@ -128,7 +128,7 @@ fn papers_of_plain(
     let likely = likely_lists(alloc, text, &listed)?;
     let mut rows = Below {
         width: roster.width,
-        records: Records::plain(alloc, text),
+        records: Records::plain(text),
     };
     let Ok(mut papers) = open_papers(alloc, seed, schools.as_slice(), listed.len()) else {
         return None;

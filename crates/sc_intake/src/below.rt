@@ -67,14 +67,13 @@ fn tidy_student(
 {
     let text = records.text()?;
     let (found, rest) = take_student(alloc, row, width, text)?;
-    records.go_on(alloc, rest);
+    records.go_on(rest);
     Some(found)
 }
 
 /// The student of the row that the next record of the lists is, where that is tidy and a student may have its choices;
 /// where their schools stand is put into `placed`. `None` says nothing of the record, and leaves the records as they were.
 fn placed_row(
-    alloc: Global,
     papers: &FlatPapers,
     width: usize,
     records: &mut Records<'_>,
@@ -89,7 +88,7 @@ fn placed_row(
     let Some((student, left)) = take_placed(papers, width, text, placed) else {
         return None;
     };
-    records.go_on(alloc, left);
+    records.go_on(left);
     Some(student)
 }
 
@@ -141,7 +140,7 @@ pub(crate) fn next_placed(
     ensures within { IfSome result (λ next. IfSome next (λ _. AreOfSchools papers.now placed.new)) }
     ensures width { below.new.width ≡ below.old.width }
 {
-    if let Some(student) = placed_row(alloc, papers, below.width, &mut below.records, placed) {
+    if let Some(student) = placed_row(papers, below.width, &mut below.records, placed) {
         return Some(Some(student));
     }
     let Some(list) = any_row::<ListRow>(alloc, row, below.width, &mut below.records)? else {

@@ -1,9 +1,9 @@
 //! The records of a text of which nobody has looked yet whether it has a quote.
 
-use crate::plain_records::{PlainRecords, split_line, without_line_ends};
+use crate::plain_records::{split_line, without_line_ends};
 use crate::quoted_records::QuotedRecords;
 use memchr::memchr;
-use std::alloc::{AllocError, Global};
+use std::alloc::Global;
 use std::marker::Model;
 
 /// The records of a text that may have quotes: the one read last, in whose line there is none, and those that are left. Each
@@ -12,7 +12,7 @@ use std::marker::Model;
 pub(crate) struct LineRecords<'a> {
     alloc: Global,
     // The line of the record read last.
-    line: PlainRecords<'a>,
+    line: &'a [u8],
     // The text from its line end on, so that no byte order mark begins it: `csv` passes over one, wherever it is begun with.
     rest: &'a [u8],
 }
@@ -32,10 +32,11 @@ impl<'a> Model for LineRecords<'a> {
 }
 
 impl<'a> LineRecords<'a> {
-    ghost use Rattle.std.specs.Prelude.{◌≡◌, false, IfOk, MatchOption};
+    ghost use Rattle.std.specs.Prelude.{◌≡◌, [], false, MatchOption};
     ghost use Rattle.csv.specs.Reading.{default_config, records};
     ghost use Rattle.sc_intake.specs.Cursor.{ReadsNext};
     ghost use Rattle.sc_intake.specs.File.{is_marked};
+    ghost use Rattle.sc_intake.specs.Plain.{fields_from};
 
     /// The records of a text, which no byte order mark begins; none is read yet.
     pub(crate) fn new(alloc: Global, unmarked: &'a [u8]) -> Self
@@ -44,25 +45,26 @@ impl<'a> LineRecords<'a> {
     {
         LineRecords {
             alloc,
-            line: PlainRecords::new(alloc, &[]),
+            line: &[],
             rest: unmarked,
         }
     }
 
-    /// Reads the next record, and says whether there was one. `None` says that its line has a quote, and leaves it. The only
-    /// error is want of memory, after which the records that are left are not known.
-    pub(crate) fn advance(&mut self) -> Result<Option<bool>, AllocError>
-        ensures { IfOk result (λ found. MatchOption found (self.new.left ≡ self.old.left)
-            (ReadsNext self.old self.new)) }
+    /// Reads the next record, and says whether there was one. `None` says that its line has a quote, and leaves it.
+    pub(crate) fn advance(&mut self) -> Option<bool>
+        ensures { MatchOption result (self.new.left ≡ self.old.left) (ReadsNext self.old self.new) }
     {
         let text = without_line_ends(self.rest);
+        if text.is_empty() {
+            return Some(false);
+        }
         let (line, _) = split_line(text);
         if memchr(b'"', line).is_some() {
-            return Ok(None);
+            return None;
         }
-        self.line.go_on(line);
+        self.line = line;
         self.rest = &text[line.len()..];
-        Ok(Some(self.line.advance()?))
+        Some(true)
     }
 
     /// The records that are left, as `csv` reads them.
@@ -88,9 +90,9 @@ impl<'a> LineRecords<'a> {
     }
 
     /// The line of the record read last.
-    pub(crate) fn line(&self) -> &PlainRecords<'a>
-        ensures { result.now.current ≡ self.now.current }
+    pub(crate) fn line(&self) -> &'a [u8]
+        ensures { fields_from [] result.now ≡ self.now.current }
     {
-        &self.line
+        self.line
     }
 }

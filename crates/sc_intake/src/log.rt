@@ -35,7 +35,7 @@ fn add_rejection(fields: &Records, log: &mut Vec<Rejection>) -> Result<(), Cause
 
 /// The rejection that the next record is, where that is tidy. `None` says nothing of it, and leaves the records as they
 /// were.
-fn tidy_rejection(alloc: Global, records: &mut Records) -> Option<Rejection>
+fn tidy_rejection(records: &mut Records) -> Option<Rejection>
     ensures rejection { IfSome result (TakesRejection records.old.left records.new.left) }
     ensures unchanged { IfNone result (records.new ≡ records.old) }
 {
@@ -43,23 +43,19 @@ fn tidy_rejection(alloc: Global, records: &mut Records) -> Option<Rejection>
     let Some((found, rest)) = take_rejection(text) else {
         return None;
     };
-    records.go_on(alloc, rest);
+    records.go_on(rest);
     Some(found)
 }
 
 /// Adds the rejection that the next record is to the log, if there is one, and says whether there was.
-fn add_next(
-    alloc: Global,
-    records: &mut Records,
-    log: &mut Vec<Rejection>,
-) -> Result<bool, IntakeFault>
+fn add_next(records: &mut Records, log: &mut Vec<Rejection>) -> Result<bool, IntakeFault>
     ensures added { MatchResult result (λ found. MatchBool found
         (log_after log.old.items records.old.left ≡ log_after log.new.items records.new.left)
         (log_after log.old.items records.old.left ≡ Ok log.new.items))
         (IsFault (no_memory Log) (log_after log.old.items records.old.left)) }
     ensures fewer { IfOk result (λ found. found ≡ true → length records.new.left < length records.old.left) }
 {
-    if let Some(found) = tidy_rejection(alloc, records) {
+    if let Some(found) = tidy_rejection(records) {
         return match log.push(found) {
             Ok(()) => Ok(true),
             Err(_) => Err(IntakeFault::no_memory(Source::Log)),
@@ -80,7 +76,7 @@ fn take_log(alloc: Global, records: &mut Records) -> Result<Vec<Rejection>, Inta
     ensures { Gives (λ log. log.items) (no_memory Log) (log_after [] records.old.left) result }
 {
     let mut log = Vec::new(alloc);
-    'log: while add_next(alloc, records, &mut log)? {}
+    'log: while add_next(records, &mut log)? {}
     Ok(log)
 }
 

@@ -1,38 +1,22 @@
 //! The records of a text without a quote.
 
-ghost use Rattle.std.specs.Prelude.{◌≡◌, ℕ, ◌≤◌, ◌^◌, ◌++◌, ◌∷◌, [], Bool, List, IfOk, drop, false, length, option_map, take};
-ghost use Rattle.std.specs.List.{list_any};
+ghost use Rattle.std.specs.Prelude.{◌≡◌, ℕ, ◌≤◌, ◌^◌, ◌∷◌, [], Bool, List, drop, false, length, option_map};
 ghost use Rattle.csv.specs.Records.{field_at};
 ghost use Rattle.memchr.specs.Find.{IsFirstByte, is_byte2};
-ghost use Rattle.sc_intake.specs.Plain.{EndsField, after_line, cut, ends_field, ends_line, fields_from, first_line};
-ghost use Rattle.sc_intake.specs.Representation.{fields_beyond, fields_in};
+ghost use Rattle.sc_intake.specs.Plain.{after_line, cut, ends_field, ends_line, fields_from, first_line};
 
 use crate::byte_count::count_of;
 use memchr::memchr2;
-use std::alloc::{AllocError, Global};
 use std::marker::Model;
-
-/// How many fields of a record are kept: as many as the longest record of a form has.
-const KEPT: usize = 7;
 
 /// How many bytes most lines have at most.
 const LIKELY_LINE: usize = 160;
 
-/// The records of a text without a quote: the one read last, and those that are left. Its first fields are slices of the
-/// text, in a list that is used again and again, so that nothing is copied. The fields beyond them, which no form has,
-/// are looked for where they are asked for, so that a record of millions takes no memory.
+/// The records of a text without a quote: the line of the one read last, and the text after it. The fields are slices of the
+/// line, each looked for where it is asked for, so that nothing is copied, and a record of millions of them takes no memory.
 #[derive(Drop)]
 pub(crate) struct PlainRecords<'a> {
-    rest: &'a [u8],
-    fields: Vec<&'a [u8]>,
-    // The rest of the record's line, where it has more fields than are kept.
-    beyond: Option<&'a [u8]>,
-}
-
-/// Where the kept fields of a line end.
-#[derive(Clone, Copy)]
-struct LineEnd<'a> {
-    beyond: Option<&'a [u8]>,
+    line: &'a [u8],
     rest: &'a [u8],
 }
 
@@ -76,25 +60,10 @@ pub(crate) fn without_line_ends(text: &[u8]) -> &[u8]
 }
 
 /// Whether a byte ends a field.
-fn ends_field(byte: u8) -> bool
+pub(crate) fn ends_field(byte: u8) -> bool
     ensures { result ≡ ends_field byte }
 {
     byte == b',' || ends_line(byte)
-}
-
-/// How many bytes stand before the first comma or line end of a text, or its length where there is none. They are looked at
-/// one by one, since most fields are short: a search that is to go far costs more to begin.
-pub(crate) fn field_len(text: &[u8]) -> usize
-    ensures within { result ≤ length text.now }
-    ensures clean { list_any ends_field (take result text.now) ≡ false }
-    ensures end { EndsField (drop result text.now) }
-{
-    for len in 0..text.len() {
-        if ends_field(text[len]) {
-            return len;
-        }
-    }
-    text.len()
 }
 
 /// Where the first line end of a text stands. It is looked for in the first bytes alone at first, since most lines are
@@ -131,7 +100,7 @@ pub(crate) fn line_len(text: &[u8]) -> usize
 }
 
 /// How many fields a line has.
-fn fields_len(line: &[u8]) -> usize
+pub(crate) fn fields_len(line: &[u8]) -> usize
     ensures count { result ≡ length (fields_from [] line.now) }
     ensures small { result ≤ 2 ^ 63 }
 {
@@ -139,72 +108,39 @@ fn fields_len(line: &[u8]) -> usize
 }
 
 /// A field of a line, if it has so many.
-fn field_of(line: &[u8], index: usize) -> Option<&[u8]>
+pub(crate) fn field_of(line: &[u8], index: usize) -> Option<&[u8]>
     ensures { option_map (λ f. f.now) result ≡ field_at (fields_from [] line.now) index }
 {
     line.split(|byte| *byte == b',').nth(index)
 }
 
-/// Adds the first fields of a text's first line, as many as are kept, and says where they end.
-fn take_line<'a>(text: &'a [u8], fields: &mut Vec<&'a [u8]>) -> Result<LineEnd<'a>, AllocError>
-    ensures fields { IfOk result (λ end. fields_in fields.new.items ++ fields_beyond end.beyond
-        ≡ fields_in fields.old.items ++ fields_from [] (first_line text.now)) }
-    ensures rest { IfOk result (λ end. end.rest.now ≡ after_line text.now) }
-{
-    let mut rest = text;
-    'fields: for _ in 0..KEPT {
-        let (field, after) = rest.split_at(field_len(rest));
-        fields.push(field)?;
-        match after {
-            [b',', more @ ..] => rest = more,
-            [_, more @ ..] => return Ok(LineEnd {
-                beyond: None,
-                rest: more,
-            }),
-            [] => return Ok(LineEnd {
-                beyond: None,
-                rest: after,
-            }),
-        }
-    }
-    let (line, rest) = split_line(rest);
-    Ok(LineEnd {
-        beyond: Some(line),
-        rest,
-    })
-}
-
 impl<'a> PlainRecords<'a> {
-    ghost use Rattle.std.specs.Prelude.{◌≡◌, IfOk, length, option_map};
-    ghost use Rattle.csv.specs.Records.{field_at};
+    ghost use Rattle.std.specs.Prelude.{◌≡◌, []};
     ghost use Rattle.sc_intake.specs.Cursor.{ReadsNext};
-    ghost use Rattle.sc_intake.specs.Plain.{plain_records};
+    ghost use Rattle.sc_intake.specs.Plain.{fields_from, plain_records};
 
     /// The records of a text; none is read yet.
-    pub(crate) fn new(alloc: Global, text: &'a [u8]) -> Self
+    pub(crate) fn new(text: &'a [u8]) -> Self
         ensures { result.left ≡ plain_records text.now }
     {
         PlainRecords {
+            line: &[],
             rest: text,
-            fields: Vec::new(alloc),
-            beyond: None,
         }
     }
 
-    /// Reads the next record, and says whether there was one. The only error is want of memory, after which the
-    /// records that are left are not known.
-    pub(crate) fn advance(&mut self) -> Result<bool, AllocError>
-        ensures { IfOk result (ReadsNext self.old self.new) }
+    /// Reads the next record, and says whether there was one.
+    pub(crate) fn advance(&mut self) -> bool
+        ensures { ReadsNext self.old self.new result }
     {
-        let line = without_line_ends(self.rest);
-        if line.is_empty() {
-            return Ok(false);
+        let text = without_line_ends(self.rest);
+        if text.is_empty() {
+            return false;
         }
-        self.fields.clear();
-        let end = take_line(line, &mut self.fields)?;
-        self.beyond = end.beyond;
-        self.rest = end.rest;
-        Ok(true)
+        let (line, rest) = split_line(text);
+        self.line = line;
+        self.rest = rest;
+        true
     }
 
     /// The text of the records that are left, which begins with the first of them.
@@ -221,24 +157,10 @@ impl<'a> PlainRecords<'a> {
         self.rest = text;
     }
 
-    /// How many fields the record read last has.
-    pub(crate) fn len(&self) -> usize
-        ensures { result ≡ length self.now.current }
+    /// The line of the record read last.
+    pub(crate) fn line(&self) -> &'a [u8]
+        ensures { fields_from [] result.now ≡ self.now.current }
     {
-        let kept = self.fields.as_slice().len();
-        match self.beyond {
-            Some(line) => kept + fields_len(line),
-            None => kept,
-        }
-    }
-
-    /// A field of the record read last, if it has so many.
-    pub(crate) fn get(&self, index: usize) -> Option<&[u8]>
-        ensures { option_map (λ f. f.now) result ≡ field_at self.now.current index }
-    {
-        if index < self.fields.len() {
-            return Some(self.fields[index]);
-        }
-        field_of(self.beyond?, index - self.fields.len())
+        self.line
     }
 }

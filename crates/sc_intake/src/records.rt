@@ -3,7 +3,7 @@
 use crate::blanks::{Blanks, trimmed};
 use crate::fault::{IntakeFault, Source};
 use crate::line_records::LineRecords;
-use crate::plain_records::PlainRecords;
+use crate::plain_records::{PlainRecords, field_of, fields_len};
 use crate::quoted_records::QuotedRecords;
 use std::alloc::{AllocError, Global};
 use std::marker::Model;
@@ -59,20 +59,20 @@ impl<'a> Records<'a> {
     }
 
     /// The records of a text, each of whose lines is one; none is read yet.
-    pub(crate) fn plain(alloc: Global, text: &'a [u8]) -> Self
+    pub(crate) fn plain(text: &'a [u8]) -> Self
         ensures { result.left ≡ plain_records text.now }
     {
         Records {
-            cutter: Cutter::Plain(PlainRecords::new(alloc, text)),
+            cutter: Cutter::Plain(PlainRecords::new(text)),
         }
     }
 
     /// No records.
     #[tactic(auto, unfolding(crate::specs::Plain::plain_records, crate::specs::Plain::lines_from))]
-    pub(crate) fn none(alloc: Global) -> Self
+    pub(crate) fn none() -> Self
         ensures { result.left ≡ [] }
     {
-        Records::plain(alloc, &[])
+        Records::plain(&[])
     }
 
     /// Reads the next record, and says whether there was one. The only error is want of memory.
@@ -80,11 +80,11 @@ impl<'a> Records<'a> {
         ensures { IfOk result (ReadsNext self.old self.new) }
     {
         let mut quoted = match &mut self.cutter {
-            Cutter::Lines(records) => match records.advance()? {
+            Cutter::Lines(records) => match records.advance() {
                 Some(found) => return Ok(found),
                 None => records.quoted(),
             },
-            Cutter::Plain(records) => return records.advance(),
+            Cutter::Plain(records) => return Ok(records.advance()),
             Cutter::Quoted(records) => return records.advance(),
         };
         let found = quoted.advance()?;
@@ -104,23 +104,23 @@ impl<'a> Records<'a> {
     }
 
     /// Goes on with the records of this text, which no byte order mark begins. It is cut as the one before was.
-    pub(crate) fn go_on(&mut self, alloc: Global, text: &'a [u8])
+    pub(crate) fn go_on(&mut self, text: &'a [u8])
         requires { is_marked text.now ≡ false }
         ensures { self.new.left ≡ cut self.old.by_lines text.now }
     {
         match &mut self.cutter {
             Cutter::Lines(records) => records.go_on(text),
-            _ => self.go_on_by_lines(alloc, text),
+            _ => self.go_on_by_lines(text),
         }
     }
 
     /// Goes on with the records of this text, each of whose lines is one.
-    pub(crate) fn go_on_by_lines(&mut self, alloc: Global, text: &'a [u8])
+    pub(crate) fn go_on_by_lines(&mut self, text: &'a [u8])
         ensures { self.new.left ≡ plain_records text.now }
     {
         match &mut self.cutter {
             Cutter::Plain(records) => records.go_on(text),
-            _ => self.cutter = Cutter::Plain(PlainRecords::new(alloc, text)),
+            _ => self.cutter = Cutter::Plain(PlainRecords::new(text)),
         }
     }
 
@@ -140,8 +140,8 @@ impl<'a> Records<'a> {
         ensures { result ≡ length self.now.current }
     {
         match &self.cutter {
-            Cutter::Lines(records) => records.line().len(),
-            Cutter::Plain(records) => records.len(),
+            Cutter::Lines(records) => fields_len(records.line()),
+            Cutter::Plain(records) => fields_len(records.line()),
             Cutter::Quoted(records) => records.len(),
         }
     }
@@ -151,8 +151,8 @@ impl<'a> Records<'a> {
         ensures { option_map (λ f. f.now) result ≡ field_at self.now.current index }
     {
         match &self.cutter {
-            Cutter::Lines(records) => records.line().get(index),
-            Cutter::Plain(records) => records.get(index),
+            Cutter::Lines(records) => field_of(records.line(), index),
+            Cutter::Plain(records) => field_of(records.line(), index),
             Cutter::Quoted(records) => records.get(index),
         }
     }

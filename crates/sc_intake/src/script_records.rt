@@ -55,7 +55,7 @@ impl<'a> ScriptRecords<'a> {
     {
         let found = self.read_next();
         if found.is_err() {
-            self.records = Records::none(self.alloc);
+            self.records = Records::none();
         }
         found
     }

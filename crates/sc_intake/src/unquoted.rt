@@ -6,11 +6,18 @@ ghost use Rattle.std.specs.Cow.{cow_slice_items};
 ghost use Rattle.sc_intake.specs.Plain.{ends_field, plain_records};
 ghost use Rattle.sc_intake.specs.Unquoted.{AddsLine};
 
-use crate::plain_records::field_len;
+use crate::plain_records::ends_field;
 use crate::records::Records;
 use memchr::memchr;
 use std::alloc::Global;
 use std::borrow::CowSlice;
+
+/// Whether a text has a byte that ends a field.
+fn has_field_end(text: &[u8]) -> bool
+    ensures { result ≡ list_any ends_field text.now }
+{
+    text.iter().any(|byte| ends_field(*byte))
+}
 
 /// Adds a field to a text, and the byte that ends it there. `None` says nothing of the field: it would end before, or memory
 /// is wanting.
@@ -18,7 +25,7 @@ fn push_field(text: &mut Vec<u8>, field: &[u8], end: u8) -> Option<()>
     ensures added { IfSome result (λ _. text.new.items ≡ text.old.items ++ (field.now ++ end ∷ [])) }
     ensures clean { IfSome result (λ _. list_any ends_field field.now ≡ false) }
 {
-    if field_len(field) < field.len() {
+    if has_field_end(field) {
         return None;
     }
     text.extend_from_slice(field).ok()?;
