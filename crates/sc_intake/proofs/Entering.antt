@@ -54,16 +54,15 @@ may-enter m n row list entered = by (verdict m (Enter row.student row.zone row.s
     by (Some r) is done = cc done
 
 -- one student more is in them
-entered-more : (m n : Market) (row : RosterRow) (list : Option ListRow) → entered_by m row list ≡ Ok n → length n.students ≡ length m.students + 1
-entered-more m n row None entered = cc entered
-entered-more m n row (Some list) entered =
+entered-more : (m n : Market) (row : RosterRow) (list : ListRow) → entered_by m row (Some list) ≡ Ok n → length n.students ≡ length m.students + 1
+entered-more m n row list entered =
     let same = (may-enter m n row list entered).2 in
     rw (← same) (length_push m.students (row.student, record { zone = row.zone; siblings = row.siblings; choices = list.choices; continuing = row.continuing }))
 
 -- there is room for fewer students than before
 pub room-left : (n k : Market) (row : RosterRow) (list : ListRow) → entered_by n row (Some list) ≡ Ok k → MOST_STUDENTS - length k.students < MOST_STUDENTS - length n.students
 room-left n k row list entered =
-    let more = entered-more n k row (Some list) entered in
+    let more = entered-more n k row list entered in
     let room = (may-enter n k row list entered).1 in
     let within : length n.students < MOST_STUDENTS = grind (arith, nat_tests) in
     omega arith
@@ -255,7 +254,7 @@ AreEntered-more width list_width roster lists m left rest n k row line lists_lef
           (added-row MOST_STUDENTS roster_number student_of width (length are.earlier + 2) are.earlier takes.fields row (rw are.counted at may.1) (rw are.counted at takes.reads) new);
       different = rw pushed (IsDistinct-push nat_eq_equiv numbers row.student are.different new);
       students = λ i. entered-students n k row (Some list) next.entered i ∙ ap (λ (b : Bool). b || nat_eq i row.student) (are.students i) ∙ sym (among i);
-      counted = entered-more n k row (Some list) next.entered ∙ ap (λ (count : ℕ). count + 1) are.counted ∙ sym size;
+      counted = entered-more n k row list next.entered ∙ ap (λ (count : ℕ). count + 1) are.counted ∙ sym size;
       few = omega (arith, are.counted);
       lines = are.lines ++ line ∷ [];
       once = IsDistinct-push nat_eq_equiv are.lines line are.once unused;
@@ -286,7 +285,7 @@ AreEntered-more width list_width roster lists m left rest n k row line lists_lef
 pub left-after_next : (list_width : ℕ) (lists lists_left : List (List (List ℕ))) (n k : Market) (row : RosterRow)
     → EntersNext list_width (length n.students + 2) (drop (length n.students) lists) lists_left n row k → lists_left ≡ drop (length k.students) lists
 left-after_next list_width lists lists_left n k row next =
-    rw (entered-more n k row (Some next.list) next.entered, add-one) (left-after list_width lists (length n.students) next.list (record { left = lists_left; takes = next.takes }))
+    rw (entered-more n k row next.list next.entered, add-one) (left-after list_width lists (length n.students) next.list (record { left = lists_left; takes = next.takes }))
 
 -- all entered, and no list is left
 pub AreEntered-all : (width list_width : ℕ) (roster lists : List (List (List ℕ))) (m : Market) (left : List (List (List ℕ))) (n : Market)

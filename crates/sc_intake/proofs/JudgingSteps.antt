@@ -62,19 +62,15 @@ pub judged-end : {R : Type 0} (row : ℕ) (source : Source) (read : ℕ → List
 unfolding judged_from
 judged-end row source read whole so_far left so end = sym (so ∙ ap (judged_from row source read so_far) end)
 
-students_judged-more : (lists : List ListRow) (so_far : Judged Market) (row : RosterRow) (rest : List RosterRow)
-    → students_judged lists so_far (row ∷ rest) ≡ students_judged lists (with_row Roster row.row so_far (entered_by so_far.good row (list_of lists row.student))) rest
-unfolding students_judged
-students_judged-more lists so_far row rest = refl
-
 -- the judging goes on after a student
 pub student-step : (lists : List ListRow) (whole so_far later : Judged Market) (roster : List RosterRow) (i : ℕ) (row : RosterRow)
     → whole ≡ students_judged lists so_far (drop i roster) → i < length roster → row ≡ get_or roster i row
     → later ≡ with_row Roster row.row so_far (entered_by so_far.good row (list_of lists row.student))
     → whole ≡ students_judged lists later (drop (i + 1) roster)
+unfolding students_judged
 student-step lists whole so_far later roster i row so within at is =
     so ∙ at_drop_more (students_judged lists so_far) roster i row within ∙ ap (λ (r : RosterRow). students_judged lists so_far (r ∷ drop (i + 1) roster)) (sym at)
-    ∙ students_judged-more lists so_far row (drop (i + 1) roster) ∙ ap (λ j. students_judged lists j (drop (i + 1) roster)) (sym is)
+    ∙ ap (λ j. students_judged lists j (drop (i + 1) roster)) (sym is)
 
 -- it ends with the roster
 pub student-end : (lists : List ListRow) (whole so_far : Judged Market) (roster : List RosterRow) (i : ℕ)

@@ -130,9 +130,7 @@ fn papers_of_plain(
         width: roster.width,
         records: Records::plain(text),
     };
-    let Ok(mut papers) = open_papers(alloc, seed, schools.as_slice(), listed.len()) else {
-        return None;
-    };
+    let mut papers = open_papers(alloc, seed, schools.as_slice(), listed.len()).ok()?;
     if !enter_each(
         alloc,
         &mut papers,

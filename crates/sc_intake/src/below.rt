@@ -31,12 +31,8 @@ pub(crate) fn below_header<'a, R: Row>(alloc: Global, text: &'a [u8]) -> Option<
     ensures { IfSome result (λ below. records_below R.source R.is_header text.now
         ≡ Ok (below.width, below.records.left)) }
 {
-    let Ok(mut records) = records_in(alloc, R::source(), text) else {
-        return None;
-    };
-    let Ok(width) = take_header::<R>(&mut records) else {
-        return None;
-    };
+    let mut records = records_in(alloc, R::source(), text).ok()?;
+    let width = take_header::<R>(&mut records).ok()?;
     Some(Below { width, records })
 }
 
@@ -48,10 +44,7 @@ fn row_at<R: Row>(alloc: Global, row: u64, width: usize, records: &Records<'_>) 
     if records.len() != width {
         return None;
     }
-    match R::read(alloc, row, records) {
-        Ok(found) => Some(found),
-        Err(_) => None,
-    }
+    R::read(alloc, row, records).ok()
 }
 
 /// The row that the next record of the roster is, where that is tidy. `None` says nothing of it, and leaves the records

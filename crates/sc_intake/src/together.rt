@@ -78,9 +78,7 @@ fn papers_filled(
     ensures { IfSome result (λ papers. Fill roster.old.width lists.old.width
         roster.old.records.left lists.old.records.left (opening seed schools.now) papers) }
 {
-    let Ok(mut papers) = open_papers(alloc, seed, schools.as_slice(), room) else {
-        return None;
-    };
+    let mut papers = open_papers(alloc, seed, schools.as_slice(), room).ok()?;
     if !enter_together(alloc, &mut papers, roster, lists) {
         return None;
     }
