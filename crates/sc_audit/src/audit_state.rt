@@ -11,9 +11,10 @@ ghost use Rattle.sc_audit.specs.declared.waiting.Waiting.{Waiting as Waits};
 ghost use Rattle.sc_tallies.specs.Places.{ArePlaces};
 
 use crate::best_keys::BestKeys;
+use crate::hints::Hints;
 use crate::least::lesser;
 use crate::waiting::Waiting;
-use sc_papers::{FlatPapers, Hints, Rejection, SchoolNo, Seats};
+use sc_papers::{FlatPapers, Rejection, SchoolNo, Seats};
 use std::alloc::{AllocError, Global};
 
 /// Who stands where after the entries so far, and the best keys of each school, as many as it has

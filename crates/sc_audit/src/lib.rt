@@ -1,6 +1,6 @@
 //! The auditor: a second reading of the rules. It takes a log or an assignment from anybody, and answers what the
-//! papers alone say of it. With what settles papers it shares the papers and nothing else: their keys, the look-up of a
-//! student's choice at a rank with the key there, and hints of where students stand, which promise nothing.
+//! papers alone say of it. With what settles papers it shares the papers and nothing else: their keys, and the look-up
+//! of a student's choice at a rank with the key there.
 #![tactic(auto)]
 
 mod audit_state;
@@ -8,6 +8,7 @@ mod auditor;
 mod best_keys;
 mod blocks;
 mod checker;
+mod hints;
 pub mod laws;
 mod least;
 mod membership;

@@ -10,8 +10,7 @@ use crate::given::{school, student};
 use crate::rounds::{expect_both, resume_with_the_third};
 use sc_checkpoint::{Segments, Spans, Standing};
 use sc_papers::{
-    Amendment, FlatPapers, Hints, Papers, Refusal, Rejection, SchoolList, SchoolRefusal, Seats,
-    Seed, Zone,
+    Amendment, FlatPapers, Papers, Refusal, Rejection, SchoolList, SchoolRefusal, Seats, Seed, Zone,
 };
 use sc_seats::{HeapRoll, SortedRoll};
 use std::alloc::{AllocError, Global};
@@ -341,25 +340,6 @@ fn copied(segments: &Segments) -> Option<usize>
         }
         Err(_) => None,
     }
-}
-
-/// Hints with this much room, of students 1 and 2 at the positions 7 and 9.
-fn hints_of_two(rt: &impl Abort, alloc: Global, room: usize) -> Hints {
-    let mut hints = Hints::with_room(alloc, room).expect(rt, "memory");
-    hints.note(student(rt, 1), 7);
-    hints.note(student(rt, 2), 9);
-    hints
-}
-
-#[test]
-fn hints_of_two_students(rt: HostRuntime) {
-    let hints = hints_of_two(&rt, rt.alloc(), 4);
-    same(&rt, &hints.guess(student(&rt, 1)), &7);
-    same(&rt, &hints.guess(student(&rt, 2)), &9);
-    // There is one place at least, which both share: the later one stands there.
-    let shared = hints_of_two(&rt, rt.alloc(), 0);
-    same(&rt, &shared.guess(student(&rt, 1)), &9);
-    same(&rt, &shared.guess(student(&rt, 2)), &9);
 }
 
 fn expect_growths(rt: &impl Abort, alloc: Global, segments: &mut Segments)

@@ -1,6 +1,6 @@
 //! Guesses at where students stand.
 
-use sc_lottery::StudentNumber;
+use sc_papers::StudentNo;
 use std::alloc::{AllocError, Global};
 
 /// By students' numbers: the position that was noted last for a student with such a number.
@@ -9,7 +9,7 @@ use std::alloc::{AllocError, Global};
 /// before it is used, and which may be wrong of any student. Where it is right, it spares a look-up; nothing else depends
 /// on it.
 #[derive(Drop)]
-pub struct Hints {
+pub(crate) struct Hints {
     positions: Vec<u32>,
 }
 
@@ -21,20 +21,20 @@ fn slots_for(students: usize) -> usize {
 impl Hints {
     /// Room for so many students' hints, and for less than twice as many: where it is too small, or where numbers lie far
     /// apart, some hints take the place of others. The only error is want of memory. Nothing is promised of the hints.
-    pub fn with_room(alloc: Global, students: usize) -> Result<Self, AllocError> {
+    pub(crate) fn with_room(alloc: Global, students: usize) -> Result<Self, AllocError> {
         Ok(Hints {
             positions: Vec::from_elem(alloc, 0, slots_for(students))?,
         })
     }
 
     /// Where the student's hint is kept: numbers with the same last bits share a slot.
-    fn slot(&self, student: StudentNumber) -> usize {
+    fn slot(&self, student: StudentNo) -> usize {
         student.get() as usize & self.positions.len().wrapping_sub(1)
     }
 
     /// Keeps the student's position, unless another's takes its place. Nothing is promised of what `guess` answers then. In
     /// constant time.
-    pub fn note(&mut self, student: StudentNumber, position: usize) {
+    pub(crate) fn note(&mut self, student: StudentNo, position: usize) {
         let slot = self.slot(student);
         if let Some(hint) = self.positions.get_mut(slot) {
             *hint = u32::try_from(position).unwrap_or(0);
@@ -43,7 +43,7 @@ impl Hints {
 
     /// The position at which the student may be: any number, also none of a position, which its reader tests. In constant
     /// time.
-    pub fn guess(&self, student: StudentNumber) -> usize {
+    pub(crate) fn guess(&self, student: StudentNo) -> usize {
         let hint = self.positions.get(self.slot(student));
         hint.map_or(0, |position| *position as usize)
     }
