@@ -214,6 +214,7 @@ def large_inputs():
     return [
         ("match", "lists", "one record of 67 million commas", (lists, ",")),
         ("match", "lists", "the same with a quoted field", (lists + '"1"', ",")),
+        ("match", "lists", "the same before a line with one", (lists, ",", '\n"1",1\n')),
         ("match", "lists", "one list of 33 million numbers", (lists + "1,", "1 ", "1")),
         ("match", "roster", "33 million siblings", (roster + "1,0,", "1 ", "1")),
         ("match", "roster", "rows of 30 commas", (roster, "," * 30 + "\n")),

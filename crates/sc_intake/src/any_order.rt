@@ -104,9 +104,10 @@ fn plain_file<'a, R: Row>(alloc: Global, text: &'a [u8]) -> Option<PlainFile<'a>
 {
     let mut below = below_header::<R>(alloc, text)?;
     let room = text.len();
+    let width = below.width;
     Some(PlainFile {
-        width: below.width,
-        text: unquoted_text(alloc, &mut below.records, room)?,
+        width,
+        text: unquoted_text(alloc, &mut below.records, width, room)?,
     })
 }
 
