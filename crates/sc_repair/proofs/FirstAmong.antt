@@ -5,7 +5,7 @@ use Rattle.std.specs.List.Sorted.{IsStrictlyIncreasing}
 use Rattle.std.proofs.lemmas.Bool.{cases_lt, cases_order, false≢true}
 use Rattle.std.proofs.lemmas.List.{get_or_default}
 use Rattle.std.proofs.lemmas.List.Sums.{passes_at_first, prefix_len-le-length}
-use Rattle.sc_checkpoint.proofs.Rising.{rising-less}
+use Rattle.sc_repair.proofs.Rising.{rising-less}
 use Rattle.sc_repair.proofs.Positions.{first-here}
 
 -- all that pass are among the places

@@ -1,4 +1,5 @@
 pub mod Positions
+pub mod Rising
 pub mod RegionTurns
 pub mod InPlace
 pub mod StartingInPlace

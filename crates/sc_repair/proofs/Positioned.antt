@@ -11,7 +11,7 @@ use Rattle.sc_papers.proofs.Counting.{contains-cons, contains-head, contains-tai
 use Rattle.sc_region.proofs.Filtering.{filter-among, filter-kept, filter-range}
 use Rattle.sc_region.proofs.MarkedPositions.{below-marked}
 use Rattle.sc_region.proofs.Rising.{range-from, range-rising, range-there}
-use Rattle.sc_checkpoint.proofs.Rising.{rising-less}
+use Rattle.sc_repair.proofs.Rising.{rising-less}
 use Rattle.sc_repair.specs.Locality.{marked_before, marked_from, marked_within}
 
 -- rising numbers behind the first

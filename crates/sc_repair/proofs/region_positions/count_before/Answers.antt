@@ -1,5 +1,5 @@
 use Rattle.std.proofs.Common.{arith}
-use Rattle.sc_checkpoint.proofs.Rising.{rising-less, rising-most, search-finds, search-parts}
+use Rattle.sc_repair.proofs.Rising.{rising-less, rising-most, search-finds, search-parts}
 use Rattle.sc_repair.proofs.region_positions.count_before.Goals as goal
 
 pub returns-in-Ok-clause-before : goal.returns-in-Ok-clause-before
