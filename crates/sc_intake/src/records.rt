@@ -104,6 +104,7 @@ impl<'a> Records<'a> {
     }
 
     /// Goes on with the records of this text, which no byte order mark begins. It is cut as the one before was.
+    #[inline]
     pub(crate) fn go_on(&mut self, text: &'a [u8])
         requires { is_marked text.now ≡ false }
         ensures { self.new.left ≡ cut self.old.by_lines text.now }
@@ -115,6 +116,7 @@ impl<'a> Records<'a> {
     }
 
     /// Goes on with the records of this text, each of whose lines is one.
+    #[inline]
     pub(crate) fn go_on_by_lines(&mut self, text: &'a [u8])
         ensures { self.new.left ≡ plain_records text.now }
     {

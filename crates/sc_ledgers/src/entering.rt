@@ -42,9 +42,10 @@ fn stand_first(
     stances.put(Stance { student, old, new })
 }
 
-/// Lets the last student of the papers enter, after all others, whose run the labels are of: their chain runs, each school notes whom it
-/// takes, it is kept where the chain ends, and the stances tell who stands elsewhere afterwards; the newcomer has one in any case. The list for the chain is empty before
-/// it. After a refused growth the ledgers and the stances are to be given up.
+/// Lets the last student of the papers enter, after all others, whose run the labels are of: their chain runs, each school
+/// notes whom it takes, it is kept where the chain ends, and the stances tell who stands elsewhere afterwards; the newcomer
+/// has one in any case. The list for the chain is empty before it. After a refused growth the ledgers and the stances are to
+/// be given up.
 pub fn enter_last(
     papers: &FlatPapers,
     ledgers: &mut Ledgers,

@@ -14,7 +14,8 @@ use crate::school_no::SchoolNo;
 use crate::seats::Seats;
 use sc_lottery::StudentNumber;
 
-/// The first school of the list that equals an earlier one.
+/// The first school of the list that equals an earlier one. Lists are short where it is asked for: longer ones have been
+/// refused.
 fn find_repeat(list: &[SchoolNo]) -> Option<SchoolNo>
     ensures { result ≡ first_repeat [] list.now }
 {
