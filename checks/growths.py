@@ -1,10 +1,11 @@
 #!/usr/bin/env python3
 """Runs the tests of the growths with each growth refused in turn: first the first, then the second, and so on past the last.
 
-    growths.py
+    growths.py            builds the tests first
+    growths.py --built    takes them as `rt ci` left them in the crates' folders
 
 The gate does not run it; run it before a release. The tests are all of `sc_growths`, and those of `sc_rows` on regions, rolls, rounds, checkpoints and
-papers. `rt test` builds them; each then runs alone under `refuse.c`, which refuses one growth a run. It prints how many growths each
+papers. `rt test` or `rt ci` builds them; each then runs alone under `refuse.c`, which refuses one growth a run. It prints how many growths each
 test has, and ends with status 1 where a test failed under a refusal.
 """
 import os
@@ -23,7 +24,8 @@ TESTED = (("sc_growths", ""), ("sc_rows", ("each_growth_refused", "a_spent_round
 
 def built(crate):
     """The crate's tests as one program, which runs the test that it is given by name."""
-    subprocess.run(["rt", "test"], cwd=CRATES / crate, check=True, stdout=subprocess.DEVNULL, stderr=subprocess.DEVNULL)
+    if "--built" not in sys.argv[1:]:
+        subprocess.run(["rt", "test"], cwd=CRATES / crate, check=True, stdout=subprocess.DEVNULL, stderr=subprocess.DEVNULL)
     return CRATES / crate / "out" / f"{crate}_tests"
 
 
