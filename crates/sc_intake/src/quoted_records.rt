@@ -53,15 +53,18 @@ fn want_of_memory(error: csv::Error) -> AllocError
     AllocError
 }
 
-/// A reader of a text, whose first byte order mark is passed over.
-fn reader_of(alloc: Global, text: &[u8]) -> Reader<&[u8]>
-    ensures reading { IsReading result }
-    ensures left { records_of (reader_state result) (unread result) ≡ records default_config (strip_bom text.now) }
+/// A reader of a text, whose first byte order mark is passed over. It has headers, of no fields: else it would keep its
+/// first record twice more as these. The only error is want of memory.
+fn reader_of(alloc: Global, text: &[u8]) -> Result<Reader<&[u8]>, AllocError>
+    ensures reading { IfOk result IsReading }
+    ensures left { IfOk result (λ reader. records_of (reader_state reader) (unread reader)
+        ≡ records default_config (strip_bom text.now)) }
 {
-    ReaderBuilder::new()
-        .has_headers(false)
-        .flexible(true)
-        .from_reader(alloc, text)
+    let mut reader = ReaderBuilder::new().flexible(true).from_reader(alloc, text);
+    match reader.set_byte_headers(ByteRecord::new(alloc)) {
+        Ok(()) => Ok(reader),
+        Err(_) => Err(AllocError),
+    }
 }
 
 /// A reader of a text in memory of its own, so that no other function has a place for it on the stack.
@@ -71,7 +74,7 @@ fn boxed_reader_of(alloc: Global, text: &[u8]) -> Result<Box<Reader<&[u8]>>, All
     ensures left { IfOk result (λ reader. records_of (reader_state reader.value) (unread reader.value)
         ≡ records default_config (strip_bom text.now)) }
 {
-    let boxed = Box::new(alloc, reader_of(alloc, text))?;
+    let boxed = Box::new(alloc, reader_of(alloc, text)?)?;
     Ok(boxed)
 }
 
