@@ -1,4 +1,4 @@
-ghost use Rattle.std.specs.Prelude.{◌≡◌, ℕ, ◌+◌, ◌==◌, ◌&&◌, List, [], ◌∷◌, ◌++◌, None, Some, length, take, is_some, slice_get, nat_eq, if◌then◌else◌, IfOk, OnOk, OnErr};
+ghost use Rattle.std.specs.Prelude.{◌≡◌, ℕ, ◌+◌, ◌==◌, ◌&&◌, List, [], None, Some, length, take, is_some, slice_get, nat_eq, if◌then◌else◌, IfOk, OnOk, OnErr};
 ghost use Rattle.std.specs.List.{IsDistinct};
 ghost use Rattle.std.specs.Map.{keys_of};
 ghost use Rattle.sc_papers.specs.Assignment.{assigned, holders, holding, with_place};
@@ -111,16 +111,6 @@ impl Assignment {
             ≡ holders self.old s + holding (assigned self.new) s student }
     {
         let _ = self.places.swap_remove(&student);
-    }
-
-    /// Takes the last pair away, such as the one that was put last: so a growth that is refused later can
-    /// leave what was there before. Where there is none, it does nothing. It takes no memory. In constant time.
-    pub fn take_last(&mut self)
-        ensures pair { (pairs : List (ℕ × ℕ)) (student school : ℕ) → self.old ≡ pairs ++ (student, school) ∷ []
-            → self.new ≡ pairs }
-        ensures none { self.old ≡ [] → self.new ≡ [] }
-    {
-        let _ = self.places.pop();
     }
 
     /// Keeps the first pairs of the order, so many of them, and takes the others away: so a growth that is refused

@@ -172,20 +172,7 @@ fn few_seats<R: Roll>(rt: &impl Abort, alloc: Global) -> Result<(), AllocError> 
         OneOffer::new(&seven, Some(&eight), Some(&seven)),
     ];
     let mut roll = R::with_capacity(alloc, seats(rt, 1));
-    expect_offers(rt, alloc, &mut roll, &offers)?;
-    renewed(rt, alloc, &mut roll)
-}
-
-/// A roll that is renewed holds nobody, and has the seats that it is given.
-fn renewed<R: Roll>(rt: &impl Abort, alloc: Global, roll: &mut R) -> Result<(), AllocError> {
-    roll.renew(seats(rt, 2));
-    same(rt, &roll.len(), &0);
-    same(rt, &roll.capacity(), &seats(rt, 2));
-    let seven = key(rt, 3, 5, 7);
-    let offers = [OneOffer::new(&seven, None, Some(&seven))];
-    expect_offers(rt, alloc, roll, &offers)?;
-    same(rt, &roll.len(), &1);
-    Ok(())
+    expect_offers(rt, alloc, &mut roll, &offers)
 }
 
 #[test]

@@ -64,7 +64,7 @@ fn move_about(rt: &impl Abort, assignment: &mut Assignment) {
     assignment.move_to(student(rt, 2), Some(school(rt, 10)));
     assert!(rt; assignment.get(student(rt, 2)).is_none());
     assert!(rt; assignment.get(student(rt, 3)) == Some(school(rt, 10)));
-    assignment.take_last();
+    assignment.truncate(1);
     assert!(rt; assignment.len() == 1);
 }
 

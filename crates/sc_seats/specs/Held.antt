@@ -6,7 +6,7 @@ use Rattle.sc_seats.specs.declared.held.Held.TheVariants.{Nobody, Listed, Heaped
 
 -- the keys, in the order in which they are kept
 abbrev pub keys_of : Held → List Key
-keys_of (Nobody memory) = []
+keys_of Nobody = []
 keys_of (Listed keys) = keys
 keys_of (Heaped keys) = keys
 

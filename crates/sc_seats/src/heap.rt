@@ -76,14 +76,9 @@ impl Roll for HeapRoll {
     fn with_capacity(alloc: Global, capacity: Seats) -> Self {
         HeapRoll {
             alloc,
-            held: Held::nobody(alloc),
+            held: Held::Nobody,
             capacity,
         }
-    }
-
-    fn renew(&mut self, capacity: Seats) {
-        self.held.clear(self.alloc);
-        self.capacity = capacity;
     }
 
     fn offer_held(&mut self, key: HeldKey) -> Result<Option<HeldKey>, AllocError> {
@@ -92,7 +87,7 @@ impl Roll for HeapRoll {
             return Ok(None);
         }
         if is_ahead_of_last(&self.held.last(), &key) {
-            return Ok(Some(self.held.replace_last(self.alloc, key)));
+            return Ok(Some(self.held.replace_last(key)));
         }
         Ok(Some(key))
     }
@@ -117,7 +112,7 @@ impl Roll for HeapRoll {
     fn copy(&self) -> Result<Self, AllocError> {
         Ok(HeapRoll {
             alloc: self.alloc,
-            held: self.held.copy(self.alloc)?,
+            held: self.held.copy()?,
             capacity: self.capacity,
         })
     }

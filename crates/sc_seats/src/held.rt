@@ -7,15 +7,13 @@ ghost use Rattle.sc_papers.specs.LastKey.{IsLastOf};
 use crate::held_key::HeldKey;
 use crate::key_heap::KeyHeap;
 use crate::key_list::KeyList;
-use crate::key_memory::KeyMemory;
 use std::alloc::{AllocError, Global};
 use std::mem;
 
 /// The keys that a roll holds, in no order that anybody sees.
 #[derive(Drop)]
 pub(crate) enum Held {
-    /// With memory for the keys that come.
-    Nobody(KeyMemory),
+    Nobody,
     /// Until one of them is put out. Most keys come after all those held, and would rise to the top of a heap.
     Listed(KeyList),
     /// From then on.
@@ -23,34 +21,8 @@ pub(crate) enum Held {
 }
 
 impl Held {
-    /// No keys, and no memory for any yet.
-    pub(crate) fn nobody(alloc: Global) -> Self
-        ensures nobody { keys_of result ≡ [] }
-        ensures listed { is_heap result ≡ false }
-    {
-        Held::Nobody(KeyMemory::new(alloc))
-    }
-
-    /// Lets go of the keys, and keeps their memory for those that come. In constant time.
-    pub(crate) fn clear(&mut self, alloc: Global)
-        ensures nobody { keys_of self.new ≡ [] }
-        ensures listed { is_heap self.new ≡ false }
-    {
-        let memory = mem::replace(self, Held::nobody(alloc)).into_memory();
-        *self = Held::Nobody(memory);
-    }
-
-    /// The memory of the keys, which are let go. In constant time.
-    fn into_memory(self) -> KeyMemory {
-        match self {
-            Held::Nobody(memory) => memory,
-            Held::Listed(keys) => keys.into_memory(),
-            Held::Heaped(keys) => keys.into_memory(),
-        }
-    }
-
-    /// Adds a key to those of which none was put out yet, at the cost of a comparison. The first key takes what is missing
-    /// of room for so many. A refused growth changes no key.
+    /// Adds a key to those of which none was put out yet, at the cost of a comparison. The first key takes room
+    /// for so many. A refused growth changes no key.
     pub(crate) fn add(&mut self, alloc: Global, room: usize, key: HeldKey) -> Result<(), AllocError>
         requires { is_heap self.old ≡ false }
         ensures added { OnOk result (IsPermutation (key ∷ keys_of self.old) (keys_of self.new)) }
@@ -58,10 +30,7 @@ impl Held {
         ensures unchanged { OnErr result (self.new ≡ self.old) }
     {
         match self {
-            Held::Nobody(memory) => {
-                let memory = mem::replace(memory, KeyMemory::new(alloc));
-                *self = Held::Listed(KeyList::of(memory, room, key)?);
-            }
+            Held::Nobody => *self = Held::Listed(KeyList::of(alloc, room, key)?),
             Held::Listed(keys) => keys.append(key)?,
             Held::Heaped(_) => unreachable!(),
         }
@@ -70,7 +39,7 @@ impl Held {
 
     /// Puts a key in the place of the last one, which it answers. It takes no memory. The cost is the logarithm of
     /// their number, and the first time their number.
-    pub(crate) fn replace_last(&mut self, alloc: Global, key: HeldKey) -> HeldKey
+    pub(crate) fn replace_last(&mut self, key: HeldKey) -> HeldKey
         requires { 0 < length (keys_of self.old) }
         ensures together { IsPermutation (key ∷ keys_of self.old) (result ∷ keys_of self.new) }
         ensures last { All (λ held. is_before result held ≡ false) (keys_of self.old) }
@@ -78,7 +47,7 @@ impl Held {
         if let Held::Heaped(keys) = self {
             return keys.replace_last(key);
         }
-        let Held::Listed(keys) = mem::replace(self, Held::nobody(alloc)) else {
+        let Held::Listed(keys) = mem::replace(self, Held::Nobody) else {
             unreachable!()
         };
         let mut keys = keys.into_heap();
@@ -92,7 +61,7 @@ impl Held {
         ensures { result ≡ length (keys_of self.now) }
     {
         match self {
-            Held::Nobody(_) => 0,
+            Held::Nobody => 0,
             Held::Listed(keys) => keys.len(),
             Held::Heaped(keys) => keys.len(),
         }
@@ -103,18 +72,18 @@ impl Held {
         ensures { IsLastOf result (keys_of self.now) }
     {
         match self {
-            Held::Nobody(_) => None,
+            Held::Nobody => None,
             Held::Listed(keys) => Some(keys.last()),
             Held::Heaped(keys) => Some(keys.last()),
         }
     }
 
     /// The same keys again, or the error of a refused growth. The cost is their number.
-    pub(crate) fn copy(&self, alloc: Global) -> Result<Self, AllocError>
+    pub(crate) fn copy(&self) -> Result<Self, AllocError>
         ensures { IfOk result (λ held. held ≡ self.now) }
     {
         Ok(match self {
-            Held::Nobody(_) => Held::nobody(alloc),
+            Held::Nobody => Held::Nobody,
             Held::Listed(keys) => Held::Listed(keys.copy()?),
             Held::Heaped(keys) => Held::Heaped(keys.copy()?),
         })

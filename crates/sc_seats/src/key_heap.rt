@@ -6,8 +6,7 @@ ghost use Rattle.sc_papers.specs.declared.key.Key.{Key as Priority};
 ghost use Rattle.sc_papers.specs.LastKey.{IsLastOf};
 
 use crate::held_key::HeldKey;
-use crate::key_memory::KeyMemory;
-use std::alloc::{AllocError, Global};
+use std::alloc::AllocError;
 use std::collections::BinaryHeap;
 use std::marker::Model;
 use std::mem;
@@ -89,11 +88,6 @@ impl KeyHeap {
         ensures { IsLastOf (Some result) self.now }
     {
         self.last.copy()
-    }
-
-    /// The memory of the keys, which are let go. In constant time.
-    pub(crate) fn into_memory(self) -> KeyMemory {
-        KeyMemory::of(self.keys.into_vec())
     }
 
     /// An equal heap, or the error of a refused growth. The cost is its length.

@@ -6,8 +6,7 @@ ghost use Rattle.sc_papers.specs.LastKey.{IsLastOf};
 
 use crate::held_key::HeldKey;
 use crate::key_heap::KeyHeap;
-use crate::key_memory::KeyMemory;
-use std::alloc::AllocError;
+use std::alloc::{AllocError, Global};
 use std::marker::Model;
 
 /// Keys as they came, at least one, and the last of them.
@@ -26,12 +25,12 @@ impl Model for KeyList {
 }
 
 impl KeyList {
-    /// The list of one key, in this memory and with room for so many, or the error of a refused growth.
-    pub(crate) fn of(memory: KeyMemory, room: usize, key: HeldKey) -> Result<Self, AllocError>
+    /// The list of one key, with room for so many, or the error of a refused growth.
+    pub(crate) fn of(alloc: Global, room: usize, key: HeldKey) -> Result<Self, AllocError>
         ensures { IfOk result (λ list. list ≡ key ∷ []) }
     {
         let last = key.copy();
-        let mut keys = memory.with_room(room)?;
+        let mut keys = Vec::with_capacity(alloc, room)?;
         keys.push(key)?;
         Ok(KeyList { keys, last })
     }
@@ -67,11 +66,6 @@ impl KeyList {
         ensures { IsPermutation self result }
     {
         KeyHeap::of(self.keys)
-    }
-
-    /// The memory of the keys, which are let go. In constant time.
-    pub(crate) fn into_memory(self) -> KeyMemory {
-        KeyMemory::of(self.keys)
     }
 
     /// An equal list, or the error of a refused growth. The cost is its length.

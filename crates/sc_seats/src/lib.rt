@@ -9,7 +9,6 @@ mod held;
 mod held_key;
 mod key_heap;
 mod key_list;
-mod key_memory;
 mod roll;
 mod sorted;
 

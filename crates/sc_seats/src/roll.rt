@@ -23,11 +23,6 @@ pub trait Roll: Drop {
         ensures nobody { keys result ≡ [] }
         ensures capacity { seats result ≡ capacity };
 
-    /// Empties the roll and gives it this capacity. What memory its keys had it keeps for those that come. In constant time.
-    fn renew(&mut self, capacity: Seats)
-        ensures nobody { keys self.new ≡ [] }
-        ensures capacity { seats self.new ≡ capacity };
-
     /// Offers a seat to a key that is not held, and answers the key put out for it, if there is one.
     /// With room the key is held and none is put out. Without room the best stay, among those held
     /// and the offered one, and the last of them is put out: at capacity 0 the offered one.

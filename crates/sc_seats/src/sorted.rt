@@ -97,11 +97,6 @@ impl Roll for SortedRoll {
         }
     }
 
-    fn renew(&mut self, capacity: Seats) {
-        self.keys.clear();
-        self.capacity = capacity;
-    }
-
     fn offer_held(&mut self, key: HeldKey) -> Result<Option<HeldKey>, AllocError> {
         let position = position_of(self.keys.as_slice(), &key);
         put_in(&mut self.keys, position, key)?;
