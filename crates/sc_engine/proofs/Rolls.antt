@@ -1,7 +1,7 @@
 -- Who is on a roll that fits: exactly the students who have the school.
-use Rattle.std.proofs.Common.{◌≡◌, ◌⊎◌, inl, inr, refl, ap, sym, subst, ◌∙◌, ℕ, ◌+◌, ◌<◌, ◌≤◌, ◌==◌, Bool, true, cond, ◌&&◌, List, ◌∷◌, ◌++◌, length, Some, Contains, count_by, map}
+use Rattle.std.proofs.Common.{◌≡◌, refl, ap, sym, subst, ◌∙◌, ℕ, ◌+◌, ◌<◌, ◌≤◌, ◌==◌, Bool, true, cond, ◌&&◌, List, ◌∷◌, ◌++◌, length, Some, Contains, count_by, map}
 use Rattle.std.specs.List.Sorted.{IsPermutation}
-use Rattle.std.proofs.lemmas.Bool.{cases_Bool, eqb-true, eq-eqb, and_parts, and_from}
+use Rattle.std.proofs.lemmas.Bool.{eqb-true, eq-eqb, and_parts, and_from}
 use Rattle.std.proofs.lemmas.List.Elements.{All-contains, filter_agree}
 use Rattle.std.proofs.lemmas.List.Sorted.{sum_by-IsPermutation}
 use Rattle.std.proofs.lemmas.List.Sums.{sum_by-append, sum_by-cons}
@@ -13,7 +13,7 @@ use Rattle.sc_papers.specs.declared.key.Key.{Key}
 use Rattle.sc_papers.proofs.Counting.{count-some, some-counted}
 use Rattle.sc_papers.proofs.Sums.{count-all}
 use Rattle.sc_papers.proofs.Students.{how_many-some, some-of_many}
-use Rattle.sc_papers.proofs.Rejections.{has-agree, has-true, has-some}
+use Rattle.sc_papers.proofs.Rejections.{has-true, has-some}
 use Rattle.sc_seats.specs.Roll.{RollView}
 use Rattle.sc_engine.specs.RoundView.{HoldsMatching, RollFits, RoundView, roll_of}
 use Rattle.sc_engine.proofs.RollCounts.{counted}
@@ -57,13 +57,6 @@ roll-fits_still m a b s roll agree fits = record {
   within = fits.within;
   holds = subst (λ who. IsPermutation roll.keys (map (λ j. key_of m j s) who)) (filter_agree (has a s) (has b s) agree (students_of m)) fits.holds;
 }
-
--- and where whoever has the school by one matching has the same by the other
-pub roll-fits_where : (m : Market) (a b : Matching) (s : ℕ) (roll : RollView) → ((j : ℕ) → (a j ≡ Some s) ⊎ (b j ≡ Some s) → a j ≡ b j) → RollFits m a s roll → RollFits m b s roll
-roll-fits_where m a b s roll same = roll-fits_still m a b s roll (λ j. elim (cases_Bool (has a s j)) [
-  | inl holds ↦ has-agree a b s j (same j (inl (has-true a s j holds)))
-  | inr fails ↦ elim (cases_Bool (has b s j)) [ inl holds ↦ has-agree a b s j (same j (inr (has-true b s j holds))) | inr out ↦ fails ∙ sym out ]
-])
 
 -- a round whose ranks, rolls or log are others fits too
 pub fits-again : {m : Market} {r : RoundView} {a : Matching} (r' : RoundView) (b : Matching) → HoldsMatching m r a → length r'.ranks ≤ length m.students → length r'.rolls ≡ length r.rolls

@@ -1,18 +1,16 @@
 -- The positions of the marked, before a point and from one on.
-use Rattle.std.proofs.Common.{◌≡◌, add-one, suc-add, ◌↔◌, inl, inr, refl, ap, sym, ◌∙◌, ℕ, zero, suc, ◌+◌, ◌-◌, ◌<◌, ◌≤◌, Bool, true, false, List, [], ◌∷◌, ◌++◌, cond, drop, filter, get_or, length, map, take, Contains, IsTrue, Some, slice_get, arith}
+use Rattle.std.proofs.Common.{◌≡◌, suc-add, ◌↔◌, inl, inr, refl, ap, sym, ◌∙◌, ℕ, suc, ◌+◌, ◌-◌, ◌<◌, ◌≤◌, Bool, true, false, List, [], ◌∷◌, drop, get_or, length, Contains, IsTrue, arith}
 use Rattle.std.specs.List.{range_with_len}
 use Rattle.std.specs.List.Sorted.{IsStrictlyIncreasing}
 use Rattle.std.proofs.lemmas.Bool.{cases_lt}
-use Rattle.std.proofs.lemmas.List.{get_or-drop, get_or_default, length-drop, map-append}
-use Rattle.std.proofs.lemmas.List.Elements.{filter_more}
+use Rattle.std.proofs.lemmas.List.{get_or-drop, get_or_default, length-drop}
 use Rattle.std.proofs.lemmas.List.Kept.{IsStrictlyIncreasing-filter}
-use Rattle.std.proofs.lemmas.Option.{get_or_from_slice_get, slice_get_within}
 use Rattle.sc_papers.proofs.Counting.{contains-cons, contains-head, contains-tail}
-use Rattle.sc_region.proofs.Filtering.{filter-among, filter-kept, filter-range}
+use Rattle.sc_region.proofs.Filtering.{filter-among, filter-kept}
 use Rattle.sc_region.proofs.MarkedPositions.{below-marked}
 use Rattle.sc_region.proofs.Rising.{range-from, range-rising, range-there}
 use Rattle.sc_repair.proofs.Rising.{rising-less}
-use Rattle.sc_repair.specs.Locality.{marked_before, marked_from, marked_within}
+use Rattle.sc_repair.specs.Locality.{marked_from, marked_within}
 
 -- rising numbers behind the first
 rising-tail : (x : ℕ) (xs : List ℕ) → IsStrictlyIncreasing (x ∷ xs) → IsStrictlyIncreasing xs
@@ -86,25 +84,3 @@ last-marked marks positions n from rising told fits before rest =
           let far : n + (k - n) ≡ k = omega (arith, past) in
           (k - n, omega (arith, past, within, length-drop n positions), get_or-drop n positions (k - n) p ∙ ap (λ at. get_or positions at p) far ∙ is)
     ])
-
--- what stands at the marked positions before a point is what passes of the first
-pub picked-first : {X : Type 0} (f : ℕ → X) (xs : List X) (test : X → Bool) (marks : List Bool) (point : ℕ) → point ≤ length xs → ((p : ℕ) → p < point → slice_get xs p ≡ Some (f p)) → ((p : ℕ) → p < point → get_or marks p false ≡ test (f p))
-    → map f (marked_before marks point) ≡ filter test (take point xs)
-picked-first f xs test marks zero fits there told = refl
-picked-first {X = X} f xs test marks (suc k) fits there told =
-    let first = picked-first f xs test marks k (omega (arith, fits)) (λ p low. there p (omega (arith, low))) (λ p low. told p (omega (arith, low))) in
-    let here : slice_get xs k ≡ Some (f k) = there k (omega arith) in
-    let more : marked_within marks 0 (suc k) ≡ marked_within marks 0 k ++ cond (get_or marks k false) (k ∷ []) [] =
-    ap (marked_within marks 0) (sym (add-one k)) ∙ filter-range (λ p. get_or marks p false) k in
-    let last : filter test (take (suc k) xs) ≡ filter test (take k xs) ++ cond (test (f k)) (f k ∷ []) [] =
-    ap (λ n. filter test (take n xs)) (sym (add-one k)) ∙ filter_more test xs k (f k) (slice_get_within xs k (f k) here)
-    ∙ ap (λ (x : X). filter test (take k xs) ++ cond (test x) (x ∷ []) []) (get_or_from_slice_get xs k (f k) (f k) here) in
-    ap (map f) more ∙ map-append f (marked_within marks 0 k) (cond (get_or marks k false) (k ∷ []) [])
-    ∙ ap (λ ys. ys ++ map f (cond (get_or marks k false) (k ∷ []) [])) first
-    ∙ ap (λ b. filter test (take k xs) ++ map f (cond b (k ∷ []) [])) (told k (omega arith))
-    ∙ ap (λ ys. filter test (take k xs) ++ ys) (mapped (test (f k)))
-    ∙ sym last
-  where
-    mapped : (b : Bool) → map f (cond b (k ∷ []) []) ≡ cond b (f k ∷ []) []
-    mapped true = refl
-    mapped false = refl

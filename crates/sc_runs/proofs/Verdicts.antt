@@ -1,7 +1,5 @@
 -- The verdict of a log, told or not.
 use Rattle.std.proofs.Common.{◌≡◌, ℕ, List, Option, Result, Ok, Err, ap, subst}
-use Rattle.std.specs.Result.{result_ok}
-use Rattle.std.proofs.lemmas.Option.{none-some, same_Some}
 use Rattle.std.specs.Io.KnownBytes.{Appends}
 use Rattle.sc_papers.specs.Market.{Market}
 use Rattle.sc_papers.specs.declared.rejection.Rejection.{Rejection}
@@ -10,7 +8,7 @@ use Rattle.sc_audit.specs.declared.verdict.Verdict.{Verdict}
 use Rattle.sc_intake.specs.declared.fault.IntakeFault.{IntakeFault}
 use Rattle.sc_steps.specs.declared.fault.RunFault.{RunFault}
 use Rattle.sc_steps.specs.declared.fault.RunFault.TheVariants.{WriteOut, OutOfMemory}
-use Rattle.sc_runs.specs.Auditing.{claimed_in, verdict_text, Claimed, WritesAudit, WritesVerdict}
+use Rattle.sc_runs.specs.Auditing.{claimed_in, verdict_text, WritesVerdict}
 use Rattle.sc_runs.specs.Steps.{WritesVerdictLine}
 
 -- a verdict was told of papers and the log that was read
@@ -26,9 +24,3 @@ WritesVerdict-failed m logged seen log verdict old new WriteOut read same is wro
     (record { papers = m; log = log }, ap (claimed_in (Ok m)) read, (verdict, subst (λ l. IsVerdict m l verdict) same is, wrote))
 WritesVerdict-failed m logged seen log verdict old new OutOfMemory read same is wrote = wrote
 WritesVerdict-failed m logged seen log verdict old new _ read same is wrote = absurd wrote
-
--- and the papers are answered with it
-pub WritesAudit-answered : (m : Market) (logged : Result (List Rejection) IntakeFault) (verdict : Verdict) (old new : Option (List ℕ))
-    → WritesVerdict (claimed_in (Ok m) logged) old new (Ok verdict) → WritesAudit (claimed_in (Ok m) logged) old new (Ok (record { papers = m; verdict = verdict }))
-WritesAudit-answered m (Ok log) verdict old new (claimed, read, is, wrote) = (claimed, read, ap (λ (c : Claimed). c.papers) (same_Some (record { papers = m; log = log }) claimed (ap result_ok read)), is, wrote)
-WritesAudit-answered m (Err fault) verdict old new (claimed, read, is, wrote) = absurd (none-some claimed (ap result_ok read))
