@@ -84,24 +84,22 @@ pub(crate) fn hand_after(papers: &FlatPapers, entry: &Rejection) -> Hand
     }
 }
 
-/// Runs the chain of a turn, in which the student at a position enters: whoever is put out proposes to the next choice, until a school
+/// Runs the chain of a turn, in which its student enters: whoever is put out proposes to the next choice, until a school
 /// has room or the one in hand has no choice left. The chain's rejections are put at the end of a list, which is empty, and each
 /// school notes whom it takes. After a refused growth the ledgers are to be given up.
 pub fn run_chain(
     papers: &FlatPapers,
     ledgers: &mut Vec<Ledger>,
     turn: u32,
-    first: usize,
     chain: &mut Vec<Rejection>,
 ) -> Result<(), AllocError>
-    requires first { first ≡ turn }
     requires one_each { length ledgers.old.items ≡ length papers.now.schools }
     requires none { chain.old.items ≡ [] }
     requires begins { (enters : ℕ → Bool) × (new : List (List Rejection)) × Begins (cohort papers.now enters) new turn (labels_of papers.now ledgers.old.items) }
     ensures one_each { length ledgers.new.items ≡ length papers.now.schools }
     ensures among { OnOk result ((enters : ℕ → Bool) (new : List (List Rejection)) (test inner : ℕ → Bool)
         → Begins (cohort papers.now enters) new turn (labels_of papers.now ledgers.old.items)
-        → AreTogether papers.now test inner → test (student_at papers.now first) ≡ true
+        → AreTogether papers.now test inner → test (student_at papers.now turn) ≡ true
         → All (λ e. test e.student ≡ true) chain.new.items) }
     ensures ended { OnOk result ((enters : ℕ → Bool) (new : List (List Rejection))
         → Begins (cohort papers.now enters) new turn (labels_of papers.now ledgers.old.items)
@@ -111,7 +109,7 @@ pub fn run_chain(
     // This call tells that the papers are within their limits, so that a turn is one of some label.
     prove!(papers.students_len() <= MOST_STUDENTS);
     let mut hand = Hand {
-        position: first,
+        position: turn as usize,
         rank: 0,
     };
     while let Some(entry) = propose(papers, ledgers, turn, hand)? {

@@ -78,7 +78,7 @@ pub fn enter_last(
         leaves: false,
     };
     let schools = &mut ledgers.schools;
-    run_turn(&rows, schools, stances, turn, position, chain)?;
+    run_turn(&rows, schools, stances, turn, chain)?;
     let end = end_place(papers, position, chain.as_slice());
     ledgers.ends.push(end)?;
     Ok(())

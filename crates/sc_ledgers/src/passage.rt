@@ -60,9 +60,7 @@ fn take_next(
     let old = segments.segment(position);
     let end = ledgers.ends.get(position);
     let schools = &mut ledgers.schools;
-    if take_turn(
-        rows, schools, stances, marks, turn, position, old, end, chain,
-    )? {
+    if take_turn(rows, schools, stances, marks, turn, old, end, chain)? {
         let end = end_place(rows.papers, position, chain.as_slice());
         ledgers.ends.set(position, end);
         renewal.push(position, segments.student(position), chain.as_slice())?;

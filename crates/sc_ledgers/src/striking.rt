@@ -42,25 +42,19 @@ fn strike_next(papers: &FlatPapers, ledgers: &mut Vec<Ledger>, turn: u32, entry:
     strike_at(papers, ledgers, turn, student, rank + 1);
 }
 
-/// Strikes the labels of a turn, in which the student at a position entered and these rejections came of it: those at the student's first
-/// choice, and at the choice after each school that rejected somebody.
-pub fn strike_turn(
-    papers: &FlatPapers,
-    ledgers: &mut Vec<Ledger>,
-    turn: u32,
-    first: usize,
-    segment: &[Rejection],
-)
-    requires within { first < length papers.now.students }
+/// Strikes the labels of a turn, of which these rejections came: those at its student's first choice, and at the choice after each school
+/// that rejected somebody.
+pub fn strike_turn(papers: &FlatPapers, ledgers: &mut Vec<Ledger>, turn: u32, segment: &[Rejection])
+    requires within { turn < length papers.now.students }
     requires one_each { length ledgers.old.items ≡ length papers.now.schools }
     ensures one_each { length ledgers.new.items ≡ length papers.now.schools }
     ensures struck { AreStruck turn (labels_of papers.now ledgers.old.items) (labels_of papers.now ledgers.new.items) }
-    ensures first { (s : ℕ) → slice_get (choices_of papers.now (student_at papers.now first)) 0 ≡ Some s
-        → HasNone papers.now turn (student_at papers.now first) s (labels_of papers.now ledgers.new.items) }
+    ensures first { (s : ℕ) → slice_get (choices_of papers.now (student_at papers.now turn)) 0 ≡ Some s
+        → HasNone papers.now turn (student_at papers.now turn) s (labels_of papers.now ledgers.new.items) }
     ensures later { (e : Rejection) (s : ℕ) → Contains segment.now e → IsAfter papers.now e s
         → HasNone papers.now turn e.student s (labels_of papers.now ledgers.new.items) }
 {
-    strike_at(papers, ledgers, turn, first, 0);
+    strike_at(papers, ledgers, turn, turn as usize, 0);
     for entry in segment {
         strike_next(papers, ledgers, turn, entry);
     }

@@ -1,4 +1,4 @@
-//! The turns from the rewind point on, each as it was or taken anew.
+//! The turns from the rewind point on, each as it was or taken anew. A turn has the number of the position of the student who enters in it.
 
 ghost use Rattle.std.specs.Prelude.{◌≡◌, ◌<◌, ◌+◌, ℕ, Bool, get_or, not, All, IfOk, List, [], if◌then◌else◌, IfSome, OnErr, OnOk, drop, take, ◌≤◌, Some, true, false, length, slice_get};
 ghost use Rattle.sc_papers.specs.Market.{choices_of, student_at};
@@ -12,7 +12,7 @@ ghost use Rattle.sc_ledgers.specs.Ends.{place_of, NamesNone};
 ghost use Rattle.sc_ledgers.specs.Proposals.{end_of};
 ghost use Rattle.sc_ledgers.specs.Sweep.{is_amended, AreInRegion, HasRun, IsDue, IsNext, IsRegion, IsRetaken, IsTaken};
 
-use crate::chain::{Hand, run_chain};
+use crate::chain::run_chain;
 use crate::elsewhere::{Run, Stance, Stances};
 use crate::following::{Rows, follow};
 use crate::ledger::{Answer, Ledger};
@@ -60,53 +60,48 @@ fn enter(rows: &Rows<'_>, stances: &mut Stances, position: usize) -> Result<(), 
     stances.put(Stance { student, old, new })
 }
 
-/// The student at a position enters in the new run, unless they have left: their chain runs, and the stances follow it. After a refused
+/// The student of a turn enters in the new run, unless they have left: their chain runs, and the stances follow it. After a refused
 /// growth the ledgers and the stances are to be given up.
 pub(crate) fn run_turn(
     rows: &Rows<'_>,
     ledgers: &mut Vec<Ledger>,
     stances: &mut Stances,
     turn: u32,
-    position: usize,
     chain: &mut Vec<Rejection>,
 ) -> Result<(), AllocError>
-    requires first { position ≡ turn }
-    requires within { position < length rows.now.papers.now.students }
+    requires within { turn < length rows.now.papers.now.students }
     requires one_each { length ledgers.old.items ≡ length rows.now.papers.now.schools }
     requires none { chain.old.items ≡ [] }
     requires begins { (news : List (List Rejection))
-        × (still_enters rows.now (student_at rows.now.papers.now position) ≡ true
+        × (still_enters rows.now (student_at rows.now.papers.now turn) ≡ true
         → Begins (cohort_of rows.now) news turn (labels_of rows.now.papers.now ledgers.old.items)) }
     ensures one_each { length ledgers.new.items ≡ length rows.now.papers.now.schools }
     ensures kept { OnOk result ((j : ℕ) → is_aside stances.old j ≡ true → is_aside stances.new j ≡ true) }
-    ensures left { OnOk result (still_enters rows.now (student_at rows.now.papers.now position) ≡ false
+    ensures left { OnOk result (still_enters rows.now (student_at rows.now.papers.now turn) ≡ false
         → (chain.new.items ≡ []) × (ledgers.new.items ≡ ledgers.old.items) × (stances.new ≡ stances.old)) }
-    ensures ran { OnOk result ((news : List (List Rejection)) → still_enters rows.now (student_at rows.now.papers.now position) ≡ true
+    ensures ran { OnOk result ((news : List (List Rejection)) → still_enters rows.now (student_at rows.now.papers.now turn) ≡ true
         → Begins (cohort_of rows.now) news turn (labels_of rows.now.papers.now ledgers.old.items)
         → HasRun rows.now news turn chain.new.items (labels_of rows.now.papers.now ledgers.old.items)
         (labels_of rows.now.papers.now ledgers.new.items) stances.old stances.new) }
 {
-    if has_left(rows, position) {
+    if has_left(rows, turn as usize) {
         return Ok(());
     }
-    run_chain(rows.papers, ledgers, turn, position, chain)?;
+    run_chain(rows.papers, ledgers, turn, chain)?;
     follow(rows, stances, Run::New, chain.as_slice())?;
     Ok(())
 }
 
-/// Takes a turn anew, in which the student at a position enters and of which these rejections came in the old run: what it left in the
-/// ledgers is struck, its chain runs, if they enter in the new run too, and the stances follow both. After a refused growth the ledgers and the stances are to be given
-/// up.
+/// Takes a turn anew, of which these rejections came in the old run: what it left in the ledgers is struck, its chain runs, if its student
+/// enters in the new run too, and the stances follow both. After a refused growth the ledgers and the stances are to be given up.
 fn retake(
     rows: &Rows<'_>,
     ledgers: &mut Vec<Ledger>,
     stances: &mut Stances,
     turn: u32,
-    position: usize,
     old: &[Rejection],
     chain: &mut Vec<Rejection>,
 ) -> Result<(), AllocError>
-    requires first { position ≡ turn }
     requires one_each { length ledgers.old.items ≡ length rows.now.papers.now.schools }
     requires none { chain.old.items ≡ [] }
     requires due { (m : Cohort) × (olds : List (List Rejection)) × (news : List (List Rejection)) × (i : ℕ)
@@ -125,10 +120,10 @@ fn retake(
         → IsRetaken m (cohort_of rows.now) rows.now.amended olds news turn chain.new.items
         (labels_of rows.now.papers.now ledgers.old.items) (labels_of rows.now.papers.now ledgers.new.items) stances.new) }
 {
-    enter(rows, stances, position)?;
+    enter(rows, stances, turn as usize)?;
     follow(rows, stances, Run::Old, old)?;
-    strike_turn(rows.papers, ledgers, turn, position, old);
-    run_turn(rows, ledgers, stances, turn, position, chain)?;
+    strike_turn(rows.papers, ledgers, turn, old);
+    run_turn(rows, ledgers, stances, turn, chain)?;
     stances.drop_alike(rows.amended);
     Ok(())
 }
@@ -141,22 +136,22 @@ fn is_of(entry: &Rejection, student: StudentNo, school: SchoolNo) -> bool
     entry.student == student && entry.school == school
 }
 
-/// Whether a rejection is that of the student at a position at the choice of this rank, refused at once as their turn began, and comes of
+/// Whether a rejection is that of the student of a turn at the choice of this rank, refused at once as the turn began, and comes of
 /// the new run too: the school is not marked, or is full of others who are ahead by the labels of the turns before.
 fn is_refused_too(
     rows: &Rows<'_>,
     ledgers: &[Ledger],
     marks: &Marks,
     turn: u32,
-    hand: Hand,
+    rank: usize,
     entry: &Rejection,
 ) -> bool
-    requires within { hand.position < length rows.now.papers.now.students }
+    requires within { turn < length rows.now.papers.now.students }
     requires one_each { length ledgers.now ≡ length rows.now.papers.now.schools }
     ensures { result ≡ true → IsRefusedToo rows.now.papers.now (marked_in rows.now.papers.now marks.now.flags)
-        (labels_of rows.now.papers.now ledgers.now) turn (student_at rows.now.papers.now hand.position) entry.now }
+        (labels_of rows.now.papers.now ledgers.now) turn (student_at rows.now.papers.now turn) entry.now }
 {
-    let Some(proposal) = rows.papers.proposal(hand.position, hand.rank) else {
+    let Some(proposal) = rows.papers.proposal(turn as usize, rank) else {
         return false;
     };
     let at = proposal.position;
@@ -177,24 +172,22 @@ fn is_refused_too(
     }
 }
 
-/// How many of the first rejections of a turn, in which the student at a position entered, are refusals at once that come of the new run
-/// too.
+/// How many of the first rejections of a turn are refusals at once that come of the new run too.
 fn refusals_too(
     rows: &Rows<'_>,
     ledgers: &[Ledger],
     marks: &Marks,
     turn: u32,
-    position: usize,
     segment: &[Rejection],
 ) -> usize
-    requires within { position < length rows.now.papers.now.students }
+    requires within { turn < length rows.now.papers.now.students }
     requires one_each { length ledgers.now ≡ length rows.now.papers.now.schools }
     ensures within { result ≤ length segment.now }
     ensures refused { All (IsRefusedToo rows.now.papers.now (marked_in rows.now.papers.now marks.now.flags)
-        (labels_of rows.now.papers.now ledgers.now) turn (student_at rows.now.papers.now position)) (take result segment.now) }
+        (labels_of rows.now.papers.now ledgers.now) turn (student_at rows.now.papers.now turn)) (take result segment.now) }
 {
     for (rank, entry) in segment.iter().enumerate() {
-        if !is_refused_too(rows, ledgers, marks, turn, Hand { position, rank }, entry) {
+        if !is_refused_too(rows, ledgers, marks, turn, rank, entry) {
             return rank;
         }
     }
@@ -218,75 +211,71 @@ fn is_still(
     ledgers: &[Ledger],
     marks: &Marks,
     turn: u32,
-    position: usize,
     segment: &[Rejection],
     end: Option<usize>,
 ) -> bool
-    requires within { position < length rows.now.papers.now.students }
+    requires within { turn < length rows.now.papers.now.students }
     requires one_each { length ledgers.now ≡ length rows.now.papers.now.schools }
-    ensures beside { result ≡ true → is_amended rows.now.amended (student_at rows.now.papers.now position) ≡ false }
+    ensures beside { result ≡ true → is_amended rows.now.amended (student_at rows.now.papers.now turn) ≡ false }
     ensures made_too { result ≡ true → (p : ℕ) × All (IsRefusedToo rows.now.papers.now (marked_in rows.now.papers.now marks.now.flags)
-        (labels_of rows.now.papers.now ledgers.now) turn (student_at rows.now.papers.now position)) (take p segment.now)
+        (labels_of rows.now.papers.now ledgers.now) turn (student_at rows.now.papers.now turn)) (take p segment.now)
         × All (λ e. marked_in rows.now.papers.now marks.now.flags e.school ≡ false) (drop p segment.now) }
     ensures unended { result ≡ true → IfSome end (λ place. get_or marks.now.flags place false ≡ false) }
 {
-    let Some(student) = rows.papers.student_at(position) else {
+    let Some(student) = rows.papers.student_at(turn as usize) else {
         unreachable!()
     };
     if rows.amended == Some(student) {
         return false;
     }
-    let refused = refusals_too(rows, ledgers, marks, turn, position, segment);
+    let refused = refusals_too(rows, ledgers, marks, turn, segment);
     if marks.have_any(rows.papers, &segment[refused..]) {
         return false;
     }
     !is_marked(marks, end)
 }
 
-/// Takes one turn, in which the student at a position enters and of which these rejections came in the old run, which ended there: it stays
-/// as it was, or is taken anew, and the marks follow. The answer is whether it was taken anew; its rejections are then those of the chain. After a
-/// refused growth all is to be given up.
+/// Takes one turn, of which these rejections came in the old run and which ended there: it stays as it was, or is taken anew, and the marks
+/// follow. The answer is whether it was taken anew; its rejections are then those of the chain. After a refused growth all is to be given up.
 pub(crate) fn take_turn(
     rows: &Rows<'_>,
     ledgers: &mut Vec<Ledger>,
     stances: &mut Stances,
     marks: &mut Marks,
     turn: u32,
-    position: usize,
     old: &[Rejection],
     end: Option<usize>,
     chain: &mut Vec<Rejection>,
 ) -> Result<bool, AllocError>
-    requires first { position ≡ turn }
     requires one_each { length ledgers.old.items ≡ length rows.now.papers.now.schools }
     requires none { chain.old.items ≡ [] }
     requires flagged { length marks.old.flags ≡ length rows.now.papers.now.schools }
     requires next { (m : Cohort) × (olds : List (List Rejection)) × (news : List (List Rejection)) × (reseated : ℕ → Bool)
         × IsNext m (cohort_of rows.now) rows.now.amended rows.now.before.now reseated olds news turn old.now
         (labels_of rows.now.papers.now ledgers.old.items) stances.old marks.old }
-    requires ended { NamesNone rows.now.amended (student_at rows.now.papers.now position) old.now
-        → end ≡ place_of rows.now.papers.now (end_of rows.now.papers.now (student_at rows.now.papers.now position) old.now) }
+    requires ended { NamesNone rows.now.amended (student_at rows.now.papers.now turn) old.now
+        → end ≡ place_of rows.now.papers.now (end_of rows.now.papers.now (student_at rows.now.papers.now turn) old.now) }
     ensures one_each { length ledgers.new.items ≡ length rows.now.papers.now.schools }
     ensures flagged { OnOk result (length marks.new.flags ≡ length rows.now.papers.now.schools) }
     ensures inside { OnOk result ((m : Cohort) (olds news : List (List Rejection)) (reseated test inner : ℕ → Bool)
         → IsNext m (cohort_of rows.now) rows.now.amended rows.now.before.now reseated olds news turn old.now
         (labels_of rows.now.papers.now ledgers.old.items) stances.old marks.old
         → IsRegion m.papers rows.now.papers.now rows.now.amended test inner
-        → test (student_at rows.now.papers.now position) ≡ true
+        → test (student_at rows.now.papers.now turn) ≡ true
         → AreInRegion rows.now.papers.now test inner stances.old marks.old
         → AreInRegion rows.now.papers.now test inner stances.new marks.new) }
     ensures empty { IfOk result (λ anew. anew ≡ false → chain.new.items ≡ []) }
-    ensures beside { IfOk result (λ anew. anew ≡ false → NamesNone rows.now.amended (student_at rows.now.papers.now position) old.now) }
+    ensures beside { IfOk result (λ anew. anew ≡ false → NamesNone rows.now.amended (student_at rows.now.papers.now turn) old.now) }
     ensures taken { IfOk result (λ anew. (m : Cohort) (olds news : List (List Rejection)) (reseated : ℕ → Bool)
         → IsNext m (cohort_of rows.now) rows.now.amended rows.now.before.now reseated olds news turn old.now
         (labels_of rows.now.papers.now ledgers.old.items) stances.old marks.old
         → IsTaken m (cohort_of rows.now) rows.now.amended reseated olds news turn (if anew then chain.new.items else old.now)
         (labels_of rows.now.papers.now ledgers.new.items) stances.new marks.new) }
 {
-    if is_still(rows, ledgers, marks, turn, position, old, end) {
+    if is_still(rows, ledgers, marks, turn, old, end) {
         return Ok(false);
     }
-    retake(rows, ledgers, stances, turn, position, old, chain)?;
+    retake(rows, ledgers, stances, turn, old, chain)?;
     marks.follow(rows.papers, stances.as_slice())?;
     Ok(true)
 }

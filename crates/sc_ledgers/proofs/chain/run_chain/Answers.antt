@@ -1,4 +1,4 @@
-use Rattle.std.proofs.Common.{◌≡◌, sym, ap, subst, ◌∙◌, [], ◌∷◌, ◌++◌, Option, Some, All, IfSome, true, Contains, length, slice_get, arith}
+use Rattle.std.proofs.Common.{◌≡◌, sym, ap, subst, ◌∙◌, [], ◌∷◌, ◌++◌, Option, All, IfSome, true, Contains, length, arith}
 use Rattle.std.proofs.lemmas.Option.{slice_get-get_or}
 use Rattle.std.proofs.lemmas.List.{length-map, length_push}
 use Rattle.std.proofs.lemmas.List.Elements.{All-nil, All-push}
@@ -15,14 +15,13 @@ pub loop-entry-init : goal.loop-entry-init
 loop-entry-init c =
     let m = c.args.papers.now in
     let (enters, given, starts) = c.requires.begins in (
-      omega (arith, starts.within, c.requires.first),
+      starts.within,
       c.requires.one_each,
       λ enters new test inner begins together first. (first, subst (All (λ e. test e.student ≡ true)) (sym c.requires.none) (All-nil (λ (e : Rejection). test e.student ≡ true))),
       λ enters new begins.
-          subst (λ chain. Course (cohort m enters) new c.args.turn (joined new ++ chain) (student_at m c.args.first) 0 (labels_of m c.args.ledgers.now.items) (labels_of m c.args.ledgers.now.items)) (sym c.requires.none)
-          (course-begins (cohort m enters) new c.args.turn (student_at m c.args.first) (labels_of m c.args.ledgers.now.items) begins
-          (subst (λ k. slice_get (students_of m) k ≡ Some (student_at m c.args.first)) c.requires.first
-          (slice_get-get_or (students_of m) c.args.first 0 (omega (arith, begins.within, c.requires.first, length-map m.students (λ e. e.0)))))),
+          subst (λ chain. Course (cohort m enters) new c.args.turn (joined new ++ chain) (student_at m c.args.turn) 0 (labels_of m c.args.ledgers.now.items) (labels_of m c.args.ledgers.now.items)) (sym c.requires.none)
+          (course-begins (cohort m enters) new c.args.turn (student_at m c.args.turn) (labels_of m c.args.ledgers.now.items) begins
+          (slice_get-get_or (students_of m) c.args.turn 0 (omega (arith, begins.within, length-map m.students (λ e. e.0))))),
     )
 
 pub hand_after-hand-requires : goal.hand_after-hand-requires

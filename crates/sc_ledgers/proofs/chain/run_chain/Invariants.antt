@@ -12,7 +12,7 @@ invariant-loop-entry l =
     (l.hand.position < length l.papers.students)
     × (length l.ledgers.items ≡ length l.papers.schools)
     × ((enters : ℕ → Bool) (new : List (List Rejection)) (test inner : ℕ → Bool) → Begins (cohort l.papers enters) new l.turn (labels_of l.papers l.fn.ledgers.items)
-    → AreTogether l.papers test inner → test (student_at l.papers l.first) ≡ true → (test (student_at l.papers l.hand.position) ≡ true) × All (λ e. test e.student ≡ true) l.chain.items)
+    → AreTogether l.papers test inner → test (student_at l.papers l.turn) ≡ true → (test (student_at l.papers l.hand.position) ≡ true) × All (λ e. test e.student ≡ true) l.chain.items)
     × ((enters : ℕ → Bool) (new : List (List Rejection)) → Begins (cohort l.papers enters) new l.turn (labels_of l.papers l.fn.ledgers.items)
     → Course (cohort l.papers enters) new l.turn (joined new ++ l.chain.items) (student_at l.papers l.hand.position) l.hand.rank (labels_of l.papers l.fn.ledgers.items) (labels_of l.papers l.ledgers.items))
 

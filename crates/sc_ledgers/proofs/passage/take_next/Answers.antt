@@ -1,4 +1,4 @@
-use Rattle.std.proofs.Common.{◌≡◌, refl, sym, inl, inr, Contains, ap, subst, ◌∙◌, take, if◌then◌else◌, arith}
+use Rattle.std.proofs.Common.{◌≡◌, refl, sym, inl, inr, true, Contains, ap, subst, ◌∙◌, take, if◌then◌else◌, arith}
 use Rattle.std.proofs.lemmas.Bool.{cond-false, cond-true}
 use Rattle.std.proofs.lemmas.List.{length-map}
 use Rattle.std.proofs.lemmas.List.Elements.{Contains-push_cases}
@@ -6,7 +6,7 @@ use Rattle.sc_papers.specs.Market.{student_at}
 use Rattle.sc_checkpoint.specs.Chains.{logs_in, students_in, with_chain}
 use Rattle.sc_ledgers.specs.Course.{labels_of}
 use Rattle.sc_ledgers.specs.Elsewhere.{cohort_of}
-use Rattle.sc_ledgers.specs.Ends.{place_of}
+use Rattle.sc_ledgers.specs.Ends.{place_of, NamesNone}
 use Rattle.sc_ledgers.specs.Proposals.{end_of}
 use Rattle.sc_ledgers.specs.Renewed.{anew}
 use Rattle.sc_ledgers.specs.Sweep.{IsNext, IsTaken}
@@ -25,7 +25,7 @@ returns-in_ok-push-clause-swept c m reseated test inner sweeping passes =
     let told = c.in_ok-take_turn.ensures.taken m old news reseated next in
     let taken = subst (λ segment. IsTaken m (cohort_of rows) rows.amended reseated old news c.args.position segment (labels_of rows.papers.now c.take_turn.new.ledgers.items) c.take_turn.new.stances c.take_turn.new.marks)
     (cond-true c.in_ok-take_turn.field-0 c.take_turn.new.chain.items rest c.if-branch.true) (subst (λ k. IsTaken m (cohort_of rows) rows.amended reseated old news k (if c.in_ok-take_turn.field-0 then c.take_turn.new.chain.items else rest) (labels_of rows.papers.now c.take_turn.new.ledgers.items) c.take_turn.new.stances c.take_turn.new.marks) c.turn_at-turn.ensures told) in
-    let inside = c.in_ok-take_turn.ensures.inside m old news reseated test inner next sweeping.region passes sweeping.inside in
+    let inside = c.in_ok-take_turn.ensures.inside m old news reseated test inner next sweeping.region (subst (λ k. test (student_at rows.papers.now k) ≡ true) (sym c.turn_at-turn.ensures) passes) sweeping.inside in
     sweeping-anew c.take_turn.new.chain.items c.student.result c.push.new.self c.end_place-end.result (omega (arith, c.requires.within, length-map c.args.segments.now (λ x. x.rejections))) sweeping taken inside c.in_ok-push.ensures.positions
     (c.in_ok-push.ensures.chains ∙ ap (with_chain c.args.renewal.now.chains c.student.result) c.as_slice-then-branch.ensures.value)
     (subst (λ chain. c.end_place-end.result ≡ place_of rows.papers.now (end_of rows.papers.now (student_at rows.papers.now c.args.position) chain)) c.as_slice.ensures.value c.end_place-end.ensures.place) c.set.ensures
@@ -41,8 +41,8 @@ returns-else-branch-clause-swept c m reseated test inner sweeping passes =
     let told = c.in_ok-take_turn.ensures.taken m old news reseated next in
     let taken = subst (λ segment. IsTaken m (cohort_of rows) rows.amended reseated old news c.args.position segment (labels_of rows.papers.now c.take_turn.new.ledgers.items) c.take_turn.new.stances c.take_turn.new.marks)
     (cond-false c.in_ok-take_turn.field-0 c.take_turn.new.chain.items rest c.if-branch.false) (subst (λ k. IsTaken m (cohort_of rows) rows.amended reseated old news k (if c.in_ok-take_turn.field-0 then c.take_turn.new.chain.items else rest) (labels_of rows.papers.now c.take_turn.new.ledgers.items) c.take_turn.new.stances c.take_turn.new.marks) c.turn_at-turn.ensures told) in
-    let inside = c.in_ok-take_turn.ensures.inside m old news reseated test inner next sweeping.region passes sweeping.inside in
-    sweeping-still rest c.segment-old.ensures sweeping taken inside (c.in_ok-take_turn.ensures.beside c.if-branch.false) refl
+    let inside = c.in_ok-take_turn.ensures.inside m old news reseated test inner next sweeping.region (subst (λ k. test (student_at rows.papers.now k) ≡ true) (sym c.turn_at-turn.ensures) passes) sweeping.inside in
+    sweeping-still rest c.segment-old.ensures sweeping taken inside (subst (λ k. NamesNone rows.amended (student_at rows.papers.now k) rest) c.turn_at-turn.ensures (c.in_ok-take_turn.ensures.beside c.if-branch.false)) refl
 
 pub returns-in_ok-push-clause-here : goal.returns-in_ok-push-clause-here
 returns-in_ok-push-clause-here c p here =
@@ -62,8 +62,11 @@ get-end-requires c =
 
 pub take_turn-requires-clause-ended : goal.take_turn-requires-clause-ended
 take_turn-requires-clause-ended c names =
+    let n = c.args.rows.now.papers.now in
+    let rest = c.segment-old.result.now in
     let (m, reseated, test, inner, sweeping) = c.requires.sweeping in
-    c.get-end.ensures ∙ sweeping-end c.segment-old.result.now c.segment-old.ensures sweeping names
+    subst (λ k. c.get-end.result ≡ place_of n (end_of n (student_at n k) rest)) (sym c.turn_at-turn.ensures)
+    (c.get-end.ensures ∙ sweeping-end rest c.segment-old.ensures sweeping (subst (λ k. NamesNone c.args.rows.now.amended (student_at n k) rest) c.turn_at-turn.ensures names))
 
 pub set-requires-clause-within : goal.set-requires-clause-within
 set-requires-clause-within c =

@@ -12,7 +12,7 @@ use Rattle.sc_ledgers.proofs.sweep.is_refused_too.Goals as goal
 pub returns-then-not-has : goal.returns-then-not-has
 returns-then-not-has c is =
     let n = c.args.rows.now.papers.now in (
-      c.if-not-is_of.ensures.student refl ∙ ap (λ key. key.student) c.in-Some.ensures.key ∙ student-of-key n (student_at n c.args.hand.position) c.in-Some.proposal.school,
+      c.if-not-is_of.ensures.student refl ∙ ap (λ key. key.student) c.in-Some.ensures.key ∙ student-of-key n (student_at n c.args.turn) c.in-Some.proposal.school,
       inl (ap (marked_in n c.args.marks.now.flags) (c.if-not-is_of.ensures.school refl) ∙ ap (flag_at c.args.marks.now.flags) c.in-Some.ensures.position ∙ sym c.has.ensures ∙ c.if-not-has.true),
     )
 
@@ -20,7 +20,7 @@ pub returns-in-Refused : goal.returns-in-Refused
 returns-in-Refused c is =
     let n = c.args.rows.now.papers.now in
     let s : ℕ = c.in-Some.proposal.school in
-    let i : ℕ = student_at n c.args.hand.position in
+    let i : ℕ = student_at n c.args.turn in
     let same : c.args.entry.now.student ≡ i = c.if-not-is_of.ensures.student refl ∙ ap (λ key. key.student) c.in-Some.ensures.key ∙ student-of-key n i s in
     let here : c.index-ledgers-at.result ≡ labels_of n c.args.ledgers.now s = ledger-here n c.args.ledgers.now s c.in-Some.proposal.position c.index-ledgers-at.result c.in-Some.ensures.position c.requires.one_each c.index-ledgers-at.is in
     let seats : c.get.result ≡ seats_of n s = c.get.ensures.value ∙ c.unwrap_or-seats.ensures ∙ seats-here n s c.in-Some.proposal.position c.seats_at.result c.in-Some.ensures.position c.seats_at.ensures in

@@ -1,6 +1,6 @@
 use Rattle.std.proofs.Common.{◌≡◌, inl, inr, refl, sym, ap, subst, ◌∙◌, ℕ, ◌+◌, [], ◌∷◌, ◌++◌, Some, false, true, slice_get, append-nil, arith}
 use Rattle.std.proofs.lemmas.Bool.{cases_Bool}
-use Rattle.sc_papers.specs.Market.{choices_of, student_at, students_of}
+use Rattle.sc_papers.specs.Market.{choices_of, student_at}
 use Rattle.std.proofs.lemmas.Option.{same_Some, slice_get_within}
 use Rattle.sc_papers.specs.Log.{IsValidLog}
 use Rattle.sc_papers.specs.Restriction.{joined}
@@ -22,7 +22,7 @@ pub run_turn-requires-clause-begins : goal.run_turn-requires-clause-begins
 run_turn-requires-clause-begins c =
     let n = c.args.rows.now.papers.now in
     let (m, olds, news, i, at, due) = c.requires.due in
-    let is : student_at n c.args.position ≡ i = hand-is n c.args.position i (ap (slice_get (students_of n)) c.requires.first ∙ due.here_n) in
+    let is : student_at n c.args.turn ≡ i = hand-is n c.args.turn i due.here_n in
     let struck = labels_of n c.strike_turn.new.ledgers.items in (
       news,
       λ enters. begins due c.args.old.now struck (ap (still_enters c.args.rows.now) (sym is) ∙ enters) (strikes-of due c.args.old.now struck at c.strike_turn.ensures.struck
@@ -37,7 +37,7 @@ returns-clause-retaken c m olds news i at due =
     let amended = c.args.rows.now.amended in
     let rest = c.args.old.now in
     let chain = c.run_turn.new.chain.items in
-    let is : student_at n c.args.position ≡ i = hand-is n c.args.position i (ap (slice_get (students_of n)) c.requires.first ∙ due.here_n) in
+    let is : student_at n c.args.turn ≡ i = hand-is n c.args.turn i due.here_n in
     let labels = labels_of n c.args.ledgers.now.items in
     let struck = labels_of n c.strike_turn.new.ledgers.items in
     let now = labels_of n c.run_turn.new.ledgers.items in
@@ -76,13 +76,13 @@ returns-clause-among c m olds news i test inner at due together passes all among
     let n = c.args.rows.now.papers.now in
     let k : ℕ = c.args.turn in
     let amended = c.args.rows.now.amended in
-    let is : student_at n c.args.position ≡ i = hand-is n c.args.position i (ap (slice_get (students_of n)) c.requires.first ∙ due.here_n) in
+    let is : student_at n c.args.turn ≡ i = hand-is n c.args.turn i due.here_n in
     let struck = labels_of n c.strike_turn.new.ledgers.items in
     let strikes = strikes-of due c.args.old.now struck at c.strike_turn.ensures.struck
     (subst (λ j. (s : ℕ) → slice_get (choices_of n j) 0 ≡ Some s → HasNone n k j s struck) is c.strike_turn.ensures.first) c.strike_turn.ensures.later in
     let first : AreAmong test c.enter.new.stances = elim (cases_Bool (is_amended amended i)) [
       | inr beside ↦ subst (AreAmong test) (sym (c.in_ok-enter.ensures.others (ap (is_amended amended) is ∙ beside))) among
-      | inl theirs ↦ put-among test c.args.stances.now c.enter.new.stances (record { student = student_at n c.args.position; old = slice_get c.args.rows.now.before.now 0; new = first_of c.args.rows.now (student_at n c.args.position) }) (c.in_ok-enter.ensures.theirs (ap (is_amended amended) is ∙ theirs)) (ap test is ∙ passes) among
+      | inl theirs ↦ put-among test c.args.stances.now c.enter.new.stances (record { student = student_at n c.args.turn; old = slice_get c.args.rows.now.before.now 0; new = first_of c.args.rows.now (student_at n c.args.turn) }) (c.in_ok-enter.ensures.theirs (ap (is_amended amended) is ∙ theirs)) (ap test is ∙ passes) among
     ] in
     let second = c.in_ok-follow.ensures.among test all first in
     dropped-among test c.run_turn.new.stances c.drop_alike.new.self amended c.drop_alike.ensures (elim (cases_Bool (still_enters c.args.rows.now i)) [

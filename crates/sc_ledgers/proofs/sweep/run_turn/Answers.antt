@@ -1,4 +1,4 @@
-use Rattle.std.proofs.Common.{◌≡◌, refl, sym, subst, ◌∙◌, ℕ, ◌+◌, [], ◌++◌, All, Some, slice_get, true, false, not, Bool, arith}
+use Rattle.std.proofs.Common.{◌≡◌, refl, sym, subst, ◌∙◌, ℕ, ◌+◌, [], ◌++◌, All, true, false, not, Bool, arith}
 use Rattle.std.proofs.lemmas.Bool.{false≢true}
 use Rattle.std.proofs.lemmas.List.{length-map}
 use Rattle.std.proofs.lemmas.Option.{slice_get-get_or}
@@ -22,10 +22,10 @@ gone true is other = false≢true is
 gone false is other = false≢true other
 
 pub returns-then-has_left-clause-ran : goal.returns-then-has_left-clause-ran
-returns-then-has_left-clause-ran c news enters begins = absurd (gone (still_enters c.args.rows.now (student_at c.args.rows.now.papers.now c.args.position)) (sym c.has_left.ensures ∙ c.if-has_left.true) enters)
+returns-then-has_left-clause-ran c news enters begins = absurd (gone (still_enters c.args.rows.now (student_at c.args.rows.now.papers.now c.args.turn)) (sym c.has_left.ensures ∙ c.if-has_left.true) enters)
 
 pub returns-clause-left : goal.returns-clause-left
-returns-clause-left c left = absurd (false≢true (sym left ∙ stays (still_enters c.args.rows.now (student_at c.args.rows.now.papers.now c.args.position)) (sym c.has_left.ensures ∙ c.if-has_left.false)))
+returns-clause-left c left = absurd (false≢true (sym left ∙ stays (still_enters c.args.rows.now (student_at c.args.rows.now.papers.now c.args.turn)) (sym c.has_left.ensures ∙ c.if-has_left.false)))
 
 pub returns-clause-ran : goal.returns-clause-ran
 returns-clause-ran c news enters begins =
@@ -39,7 +39,7 @@ returns-clause-ran c news enters begins =
       among = λ test inner together first among. c.in_ok-follow.ensures.among test
           (subst (All (λ e. test e.student ≡ true)) (sym c.as_slice.ensures.value)
           (c.in_ok-run_chain.ensures.among (still_enters c.args.rows.now) news test inner begins together
-          (first (student_at n c.args.position) (subst (λ t. slice_get (students_of n) t ≡ Some (student_at n c.args.position)) c.requires.first (slice_get-get_or (students_of n) c.args.position 0 (omega (arith, c.requires.within, length-map n.students (λ e. e.0)))))))) among;
+          (first (student_at n c.args.turn) (slice_get-get_or (students_of n) c.args.turn 0 (omega (arith, c.requires.within, length-map n.students (λ e. e.0))))))) among;
       stances = λ m log well stances.
           subst (λ l. AreStances m (cut p (k + 1)) log (joined news ++ l) c.follow.new.stances) c.as_slice.ensures.value
           (c.in_ok-follow.ensures.followed (cut p (k + 1)) m (joined news) log (well-cut p (k + 1) well)

@@ -17,13 +17,13 @@ use Rattle.sc_ledgers.proofs.Turning.{at-marked, named-inner, named-known, nobod
 use Rattle.sc_ledgers.proofs.sweep.take_turn.Goals as goal
 use Rattle.sc_ledgers.proofs.sweep.take_turn.Goals.{After-is_still}
 
-student-here : (n : Market) (position k : ℕ) → position ≡ k → k < length (students_of n) → slice_get (students_of n) k ≡ Some (student_at n position)
-student-here n position k same low = subst (λ p. slice_get (students_of n) p ≡ Some (student_at n position)) same (slice_get-get_or (students_of n) position 0 (omega (arith, same, low)))
+student-here : (n : Market) (k : ℕ) → k < length (students_of n) → slice_get (students_of n) k ≡ Some (student_at n k)
+student-here n k low = slice_get-get_or (students_of n) k 0 low
 
 pub is_still-requires : goal.is_still-requires
 is_still-requires c =
     let (m, olds, news, reseated, next) = c.requires.next in
-    omega (arith, turn-within next, c.requires.first, length-map c.args.rows.now.papers.now.students (λ e. e.0))
+    omega (arith, turn-within next, length-map c.args.rows.now.papers.now.students (λ e. e.0))
 
 -- what is known of a turn that stays
 module _ (c : After-is_still) (still : c.is_still.result ≡ true) {m : Cohort} {olds news : List (List Rejection)} {reseated : ℕ → Bool} (next : IsNext m (cohort_of c.args.rows.now) c.args.rows.now.amended c.args.rows.now.before.now reseated olds news c.args.turn c.args.old.now (labels_of c.args.rows.now.papers.now c.args.ledgers.now.items) c.args.stances.now c.args.marks.now) where
@@ -31,10 +31,10 @@ module _ (c : After-is_still) (still : c.is_still.result ≡ true) {m : Cohort} 
   n = c.args.rows.now.papers.now
 
   abbrev i : ℕ
-  i = student_at n c.args.position
+  i = student_at n c.args.turn
 
   here : slice_get (students_of n) c.args.turn ≡ Some i
-  here = student-here n c.args.position c.args.turn c.requires.first (turn-within next)
+  here = student-here n c.args.turn (turn-within next)
 
   beside : is_amended c.args.rows.now.amended i ≡ false
   beside = c.is_still.ensures.beside still
@@ -68,15 +68,15 @@ pub retake-requires-clause-due : goal.retake-requires-clause-due
 retake-requires-clause-due c =
     let n = c.args.rows.now.papers.now in
     let (m, olds, news, reseated, next) = c.requires.next in
-    (m, olds, news, student_at n c.args.position, next.here, due-of next.both next.swept (student_at n c.args.position) (student-here n c.args.position c.args.turn c.requires.first (turn-within next)))
+    (m, olds, news, student_at n c.args.turn, next.here, due-of next.both next.swept (student_at n c.args.turn) (student-here n c.args.turn (turn-within next)))
 
 pub follow-requires-clause-known : goal.follow-requires-clause-known
 follow-requires-clause-known c =
     let n = c.args.rows.now.papers.now in
     let k : ℕ = c.args.turn in
     let (m, olds, news, reseated, next) = c.requires.next in
-    let i : ℕ = student_at n c.args.position in
-    let due = due-of next.both next.swept i (student-here n c.args.position k c.requires.first (turn-within next)) in
+    let i : ℕ = student_at n c.args.turn in
+    let due = due-of next.both next.swept i (student-here n k (turn-within next)) in
     let done = c.in_ok-retake.ensures.retaken m olds news i next.here due in
     λ s named. named-known next.both (k + 1) (log_at olds (k + 1)) (joined (news ++ c.retake.new.chain.items ∷ [])) c.retake.new.stances done.stances s (subst (λ list. IsNamed list s) c.as_slice.ensures.value named)
 
@@ -84,8 +84,8 @@ pub returns-clause-taken : goal.returns-clause-taken
 returns-clause-taken c m olds news reseated next =
     let n = c.args.rows.now.papers.now in
     let k : ℕ = c.args.turn in
-    let i : ℕ = student_at n c.args.position in
-    let due = due-of next.both next.swept i (student-here n c.args.position k c.requires.first (turn-within next)) in
+    let i : ℕ = student_at n c.args.turn in
+    let due = due-of next.both next.swept i (student-here n k (turn-within next)) in
     let done = c.in_ok-retake.ensures.retaken m olds news i next.here due in
     let follows = subst (λ list. MarksFollow n list c.args.marks.now c.follow.new.self) c.as_slice.ensures.value c.in_ok-follow.ensures.follows in
     let through = throughout-follow n c.retake.new.stances c.args.marks.now c.follow.new.self reseated follows next.throughout in
@@ -98,8 +98,8 @@ pub returns-clause-inside : goal.returns-clause-inside
 returns-clause-inside c m olds news reseated test inner next region passes inside =
     let n = c.args.rows.now.papers.now in
     let k : ℕ = c.args.turn in
-    let i : ℕ = student_at n c.args.position in
-    let here = student-here n c.args.position k c.requires.first (turn-within next) in
+    let i : ℕ = student_at n c.args.turn in
+    let here = student-here n k (turn-within next) in
     let due = due-of next.both next.swept i here in
     let done = c.in_ok-retake.ensures.retaken m olds news i next.here due in
     let follows = subst (λ list. MarksFollow n list c.args.marks.now c.follow.new.self) c.as_slice.ensures.value c.in_ok-follow.ensures.follows in
