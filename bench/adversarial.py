@@ -7,7 +7,7 @@ The random market is one of generate.py's, with N students, 700 schools and 12 c
 costs, times its bytes or its proposals over those of the random one, whichever is more; the last column is the processor time over that.
 The proposals are the rejections of the log and the students who are placed. The chosen numbers are made by chosen.rs, compiled with rustc -O. Then
 it runs a script of 64 MiB whose records are no amendments, and tells the memory over the script's length. Last it gives the calls inputs of 64 MiB that
-are made to take much memory, and tells how much they take; --large does this alone.
+are made to take much memory, and tells how much they take. --large does these two alone.
 """
 import argparse
 import os
@@ -183,10 +183,9 @@ def time_script(given):
     folder = os.path.join(given.folder, "script")
     write(folder, [(1, 0, 1)], [(1, 0, "", [1])])
     script = os.path.join(folder, "script.csv")
-    length = 64 * 1024 * 1024
     for record in ("x\n", "0,enter,1\n", "0,enter,7,0,," + "1 " * 30_000 + "1\n"):
         with open(script, "w") as file:
-            file.write((record * (length // len(record)))[:length])
+            write_filled(file, "", record)
         spent, memory = run(given.program, folder, "run", "--script", script, "--journal", os.path.join(folder, "journal"))
         print(f"script of 64 MiB of records like {record[:12].strip()!r}: {spent:.1f} s, {memory:.0f} MiB, {memory / 64:.1f} times its length", flush=True)
 
@@ -257,15 +256,18 @@ def main():
     given.add_argument("--times", type=int, default=3)
     given.add_argument("--folder", default=os.path.join(tempfile.gettempdir(), "clearinghouse-adversarial"))
     given.add_argument("--program", default=PROGRAM)
-    given.add_argument("--large", action="store_true", help="the inputs that are made to take much memory, alone")
+    given.add_argument("--large", action="store_true", help="the script and the inputs that are made to take much memory, alone")
     given = given.parse_args()
     resource.setrlimit(resource.RLIMIT_CORE, (0, 0))
     os.makedirs(given.folder, exist_ok=True)
-    if not given.large:
-        time_markets(given)
-        time_check(given)
+    if given.large:
         time_script(given)
-    memory_of_large(given)
+        memory_of_large(given)
+        return
+    time_markets(given)
+    time_check(given)
+    # A new process, since what this one holds by now would be told as what the measured ones take.
+    subprocess.run([sys.executable, __file__, "--large", "--folder", given.folder, "--program", given.program], check=True)
 
 
 if __name__ == "__main__":
