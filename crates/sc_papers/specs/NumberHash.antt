@@ -15,3 +15,7 @@ near mixed low = (mixed / 16777216 % 256 + low) % 256 * 16777216 + (mixed % 1677
 -- what a hasher answers
 unfoldable pub finished : NumberHasher → ℕ
 finished hasher = near (folding.finish hasher.mixed) hasher.low
+
+-- the state from which each number goes on: a seed's bytes were written into a new one
+abbrev pub seeded : List ℕ → NumberHasher
+seeded seed = record { mixed = folding.write folding.initial seed; low = 0 }

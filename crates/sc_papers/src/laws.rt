@@ -220,12 +220,12 @@ pub fn amendments_are_answered_in_turn()
     ensures well_formed { (m : Market) (list : List Amendment) → WellFormed m → WellFormed (after_list m list) }
 {}
 
-/// An interleaving of several desks' lists has all their members, each once, and each list keeps its order
-/// in it.
-pub fn interleaving_has_each_member_once_in_order()
-    ensures members { (desks : List (List Amendment)) (woven : List Amendment) → IsInterleaving desks woven
+/// An interleaving of several desks' lists, of amendments with or without stamps or of anything else, has all their
+/// members, each once, and each list keeps its order in it.
+pub fn interleaving_has_each_member_once_in_order<T>()
+    ensures members { (desks : List (List T)) (woven : List T) → IsInterleaving desks woven
         → IsPermutation (flat_map (λ list. list) desks) woven }
-    ensures order { (desks : List (List Amendment)) (woven : List Amendment) → IsInterleaving desks woven
+    ensures order { (desks : List (List T)) (woven : List T) → IsInterleaving desks woven
         → All (λ list. StandsInOrder list woven) desks }
 {}
 

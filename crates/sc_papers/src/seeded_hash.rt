@@ -1,5 +1,5 @@
 ghost use Rattle.std.specs.Prelude.{◌≡◌};
-ghost use Rattle.sc_papers.specs.NumberHash.{finished, near, written};
+ghost use Rattle.sc_papers.specs.NumberHash.{finished, near, seeded, written};
 
 use sc_lottery::Seed;
 use std::hash::{BuildHasher, FoldHasher, Hasher};
@@ -61,15 +61,19 @@ impl SeededHash {
         SeededHash::of(FoldHasher::default())
     }
 
-    /// Under a seed.
-    pub(crate) fn new(seed: Seed) -> Self {
+    /// Under a seed: each number goes on from the state into which the seed's bytes were written.
+    pub(crate) fn new(seed: Seed) -> Self
+        ensures { result ≡ record { seeded = seeded seed } }
+    {
         let mut mixed = FoldHasher::default();
         mixed.write(&seed.to_bytes());
         SeededHash::of(mixed)
     }
 
     /// From a state on.
-    fn of(mixed: FoldHasher) -> Self {
+    fn of(mixed: FoldHasher) -> Self
+        ensures { result ≡ record { seeded = record { mixed = mixed; low = 0 } } }
+    {
         SeededHash {
             seeded: NumberHasher { mixed, low: 0 },
         }
