@@ -17,3 +17,4 @@ pub mod Resuming
 pub mod Forgetting
 pub mod Proposing
 pub mod Together
+pub mod InOrder

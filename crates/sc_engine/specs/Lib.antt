@@ -7,3 +7,4 @@ pub mod Proposals
 pub mod SettledPlaces
 pub mod Fresh
 pub mod Together
+pub mod InOrder

@@ -60,8 +60,7 @@ impl<R: Roll> Round<R> {
     /// entered, in whatever order they did.
     ///
     /// A refused growth leaves the round spent, and a spent round answers the error to every student.
-    /// No memory is taken for a proposal but by the log and the rolls, nor for a student but where they
-    /// came to the papers after the round began.
+    /// Memory is taken by the log, the rolls and the table of ranks alone.
     pub fn enter_one(&mut self, papers: &FlatPapers, student: StudentNo) -> Result<(), AllocError>
         // Of a round that is not spent: it fits the papers, and the student is in them and has not
         // entered.

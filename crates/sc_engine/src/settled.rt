@@ -8,6 +8,7 @@ ghost use Rattle.sc_papers.specs.Matching.{IsStudentOptimal};
 ghost use Rattle.sc_papers.specs.Progress.{placed};
 ghost use Rattle.sc_engine.specs.SettledPlaces.{AreSettledPlaces};
 ghost use Rattle.sc_engine.specs.Fresh.{IsFresh};
+ghost use Rattle.sc_engine.specs.InOrder.{IsInOrder};
 ghost use Rattle.sc_engine.specs.Round.{view_of};
 ghost use Rattle.sc_engine.specs.RoundView.{SettlesThese};
 
@@ -38,14 +39,16 @@ pub struct SettledPlaces {
     pub tallies: Vec<Tally>,
 }
 
-/// Enters all students in order of entry. The log is settled for the papers, and so its matching,
-/// which the assignment is, is the student-optimal stable matching (Gale and Shapley 1962).
+/// Enters all students in order of entry: the log is that of the first student's chain, then of the second's, and so on. It is
+/// settled for the papers, and so its matching, which the assignment is, is the student-optimal stable matching (Gale
+/// and Shapley 1962).
 ///
 /// The only error is want of memory. The cost is two look-ups by number and an offer for each
 /// proposal, which takes the logarithm of a school's seats, and memory is taken in proportion to the
 /// students, the schools and the rejections.
 pub fn settle(alloc: Global, papers: &FlatPapers) -> Result<Settled, AllocError>
     ensures settled { IfOk result (λ settled. IsSettled papers.now settled.log.items) }
+    ensures in_order { IfOk result (λ settled. IsInOrder papers.now settled.log.items) }
     ensures matching { IfOk result (λ settled. (i : ℕ)
         → assigned settled.assignment i ≡ next_choice papers.now settled.log.items i) }
     ensures optimal { IfOk result (λ settled. IsStudentOptimal papers.now (assigned settled.assignment)) }
@@ -77,7 +80,8 @@ pub fn settle_places(alloc: Global, papers: &FlatPapers) -> Result<SettledPlaces
 /// Enters all students in order of entry into a round in which nobody has entered.
 fn enter_all<R: Roll>(round: &mut Round<R>, papers: &FlatPapers) -> Result<(), AllocError>
     requires { IsFresh R.keys R.seats papers.now round.old }
-    ensures { OnOk result (SettlesThese papers.now (view_of R.keys R.seats round.new) (students_of papers.now)) }
+    ensures settles { OnOk result (SettlesThese papers.now (view_of R.keys R.seats round.new) (students_of papers.now)) }
+    ensures in_order { OnOk result (IsInOrder papers.now (view_of R.keys R.seats round.new).log) }
 {
     for position in 0..papers.students_len() {
         let Some(student) = papers.student_at(position) else {

@@ -31,7 +31,7 @@ use Rattle.sc_repair.specs.Anew.{school_in, student_in, AreLedgersOf, IsStruck}
 use Rattle.sc_repair.specs.Locality.{marked_within, TellsRegion}
 use Rattle.sc_repair.specs.Rewinding.{lists}
 use Rattle.sc_repair.proofs.Regional.{region-alike, region-apart, region-apart_after, student-outside}
-use Rattle.sc_repair.proofs.Resumption.{any-turned}
+use Rattle.sc_engine.proofs.InOrder.{any-turned}
 
 -- Who lists the schools of a region.
 

@@ -19,7 +19,7 @@ use Rattle.sc_papers.proofs.Optimality.{settled-optimal}
 use Rattle.sc_papers.proofs.Students.{how_many-agree, how_many-none}
 use Rattle.sc_checkpoint.specs.Chains.{logs_in, students_in, with_chain, Chain}
 use Rattle.sc_engine.specs.RoundView.{RoundView, entered_papers, has_entered, next_of, nobody, standing_but, rank_of, Continues, Enters, Fits}
-use Rattle.sc_engine.proofs.Settling.{first-more}
+use Rattle.sc_engine.proofs.{InOrder.{entered-cut, none-segmented}, Settling.{first-more}}
 use Rattle.sc_engine.proofs.Tables.{next-none}
 use Rattle.sc_repair.specs.Resumption.{GoesOn}
 use Rattle.sc_repair.specs.Standing.{IsCertified}
@@ -38,30 +38,6 @@ certified-of m places segments proposals well segmented matching =
       matching = matching;
       optimal = subst (IsStudentOptimal m) same (settled-optimal m well (joined segments) settled);
     }
-
--- no segments are those of no students
-nothing-settled : (m : Market) → IsSettled (cut (cut m 0) 0) (joined [])
-unfolding cut how_many
-nothing-settled m = record { valid = tt; within_seats = λ s. omega arith }
-
-none-segmented : (m : Market) → IsSegmented (cut m 0) []
-unfolding cut
-none-segmented m = record {
-  one_each = refl;
-  settled = λ k low.
-      let zero_is : 0 ≡ k = omega (arith, low) in
-      subst (λ j. IsSettled (cut (cut m 0) j) (joined (take j []))) zero_is (nothing-settled m);
-}
-
--- whether a number is among others, asked either way
-pub any-turned : (xs : List ℕ) (i : ℕ) → list_any (nat_eq i) xs ≡ list_any (λ j. j == i) xs
-any-turned [] i = refl
-any-turned (x ∷ xs) i = ap (λ b. b || list_any (nat_eq i) xs) (nat_eq_equiv.symm i x) ∙ ap (λ b. (x == i) || b) (any-turned xs i)
-
--- the papers of the first k students, if they alone have entered
-entered-cut : (m : Market) (ranks : List (Option ℕ)) (k : ℕ) → WellFormed m → ((i : ℕ) → has_entered m ranks i ≡ list_any (nat_eq i) (take k (students_of m))) → entered_papers m ranks ≡ cut m k
-entered-cut m ranks k well entered =
-    ap (restricted m) (λ t i. (entered i ∙ any-turned (take k (students_of m)) i) t) ∙ sym (cut-restricted m k well)
 
 -- it begins: nobody has entered
 pub goes-on-begins : (m : Market) (r : RoundView) → Fits m r → ((i : ℕ) → has_entered m r.ranks i ≡ false) → Continues m [] r → r.log ≡ [] → r.proposals ≡ 0 → GoesOn m r [] [] 0

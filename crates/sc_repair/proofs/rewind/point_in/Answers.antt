@@ -10,7 +10,7 @@ use Rattle.sc_region.specs.Region.{amended_school, concerned, InRegion}
 use Rattle.sc_repair.specs.Anew.{school_in}
 use Rattle.sc_repair.specs.Rewinding.{lists}
 use Rattle.std.proofs.lemmas.Map.Views.{Contains-from_any}
-use Rattle.sc_repair.proofs.Resumption.{any-turned}
+use Rattle.sc_engine.proofs.InOrder.{any-turned}
 use Rattle.sc_repair.proofs.rewind.point_in.Goals as goal
 
 -- the school that an amendment amends is that of its record
