@@ -108,6 +108,7 @@ fn take_out(firsts: &mut Vec<Vec<First>>, school: usize, student: StudentNo)
     requires { school < length firsts.old.items }
     ensures others { (p i : ℕ) → (i ≡ student → ⊥) → Contains (firsts_at (lists_in firsts.old.items) p) i
         → Contains (firsts_at (lists_in firsts.new.items) p) i }
+    ensures gone { Contains (firsts_at (lists_in firsts.new.items) school) student → ⊥ }
     ensures one_each { length firsts.new.items ≡ length firsts.old.items }
 {
     strike(&mut firsts[school], student);
@@ -138,6 +139,8 @@ fn let_leave(firsts: &mut Vec<Vec<First>>, papers: &FlatPapers, amendment: &Amen
     requires { IsAllowedBeside papers.now amendment.now firsts.old.items }
     ensures others { (p i : ℕ) → (unlisted_by amendment.now ≡ Some i → ⊥)
         → Contains (firsts_at (lists_in firsts.old.items) p) i → Contains (firsts_at (lists_in firsts.new.items) p) i }
+    ensures gone { (i : ℕ) → unlisted_by amendment.now ≡ Some i
+        → Contains (firsts_at (lists_in firsts.new.items) (position_of papers.now (first_choice papers.now i))) i → ⊥ }
     ensures one_each { length firsts.new.items ≡ length firsts.old.items }
 {
     if let Some(student) = unlisted_by(amendment) {
@@ -160,6 +163,7 @@ fn let_come(
         → Contains (firsts_at (lists_in firsts.new.items) p) i) }
     ensures moved { OnOk result ((i : ℕ) → listed_by amendment.now ≡ Some i
         → Contains (firsts_at (lists_in firsts.new.items) (position_of papers.now (new_first amendment.now))) i) }
+    ensures nobody { OnOk result (listed_by amendment.now ≡ None → firsts.new ≡ firsts.old) }
     ensures one_each { OnOk result (length firsts.new.items ≡ length firsts.old.items) }
 {
     if let Some(student) = listed_by(amendment) {
@@ -267,10 +271,13 @@ impl Districts {
     }
 
     /// Brings the students who are listed at their first choices in step with an amendment, before it is made, where the new
-    /// choices have widened the districts.
+    /// choices have widened the districts. Whoever withdraws is listed there no longer, so that the lists do not grow with
+    /// those who have gone.
     fn list_anew(self, papers: &FlatPapers, amendment: &Amendment) -> Result<Self, AllocError>
         requires { AreWidened papers.now amendment.now self }
-        ensures { IfOk result (AreDistricts (after papers.now amendment.now)) }
+        ensures listed { IfOk result (AreDistricts (after papers.now amendment.now)) }
+        ensures gone { IfOk result (λ districts. (i : ℕ) → unlisted_by amendment.now ≡ Some i → listed_by amendment.now ≡ None
+            → Contains (firsts_at districts.firsts (position_of papers.now (first_choice papers.now i))) i → ⊥) }
     {
         // This call tells that the papers are well-formed.
         prove!(papers.students_len() <= MOST_STUDENTS);
