@@ -5,6 +5,7 @@ use Rattle.sc_papers.specs.Market.{Market}
 use Rattle.sc_papers.specs.Verdict.{verdict}
 use Rattle.sc_papers.specs.declared.amendment.Amendment.{Amendment}
 use Rattle.sc_stamps.specs.Verdict.{StampedPapers, stamped_after}
+use Rattle.sc_repair.specs.{Stamped.{StampedStanding, stamped_papers}, Standing.{Standing, CountsRegion, proposals_from_scratch}}
 use Rattle.sc_lines.specs.Line.{line_text}
 use Rattle.sc_lines.specs.Spelling.{IsInRanges, IsLineOf}
 use Rattle.sc_journal.specs.declared.fault.JournalCause.{JournalCause}
@@ -55,6 +56,17 @@ pub record IsReplay (before now : StampedPapers) (bytes : List ℕ) (tail : Tail
   pub replayed : IsReplayed before now bytes rest
   pub unbroken : IsUnbroken rest
   pub ending : tail ≡ tail_of rest
+
+-- the last settling's proposals are those of the last of these amendments, or of the opening where there is none
+abbrev pub CountsLast : StampedPapers → List Amendment → Standing → Type 0
+CountsLast before [] standing = standing.proposals ≡ proposals_from_scratch standing
+CountsLast before (amendment ∷ []) standing = CountsRegion before.papers amendment standing
+CountsLast before (amendment ∷ next ∷ rest) standing = CountsLast (stamped_after before amendment) (next ∷ rest) standing
+
+-- a clearing is as opening it and amending it by each whole line of the bytes leaves it
+pub record LeavesClearing (before : StampedPapers) (clearing : StampedStanding) (bytes : List ℕ) (tail : Tail) : Type 0 where
+  pub replay : IsReplay before (stamped_papers clearing) bytes tail
+  pub proposals : CountsLast before replay.replayed.amendments clearing.standing
 
 -- why the line of this number cannot be taken, in the papers before it. `Shape` is tested before the
 -- number, and this before the amendment

@@ -1,11 +1,10 @@
 //! The journal replayed over the papers that it was kept for.
 ghost use Rattle.std.specs.Prelude.{◌≡◌, ◌+◌, ◌≤◌, drop, length, IfOk, MatchOption, MatchResult};
-ghost use Rattle.sc_journal.specs.Journal.{tail_of, IsReplay, IsReplayFault, IsUnbroken};
-ghost use Rattle.sc_journal.specs.Replaying.{IsCauseOrMemory, IsEnd, IsLineEnd, IsReadCause, IsTaken};
+ghost use Rattle.sc_journal.specs.Journal.{tail_of, IsReplay, IsReplayFault, IsUnbroken, LeavesClearing};
+ghost use Rattle.sc_journal.specs.Replaying.{IsBeforeLast, IsCauseOrMemory, IsEnd, IsLineEnd, IsReadCause, IsSettledLine, IsTaken};
 ghost use Rattle.sc_lines.specs.Spelling.{IsLineOf};
 ghost use Rattle.sc_stamps.specs.Verdict.{unamended};
-ghost use Rattle.sc_repair.specs.Stamped.{stamped_papers};
-ghost use Rattle.sc_repair.specs.Standing.{proposals_from_scratch, IsCertified};
+ghost use Rattle.sc_repair.specs.Standing.{IsCertified};
 
 use crate::fault::{JournalCause, JournalFault};
 use memchr::memchr;
@@ -73,21 +72,83 @@ fn apply_line(
     }
 }
 
-/// Makes the amendments of the whole lines in turn, and says where the last of them ends.
-fn apply_lines(alloc: Global, amended: &mut Unsettled, bytes: &[u8]) -> Result<usize, JournalFault>
+/// The last whole line of a journal: its number, where it begins, and where its newline stands.
+#[derive(Clone, Copy)]
+struct LastLine {
+    number: u64,
+    start: usize,
+    end: usize,
+}
+
+/// Makes the amendments of the whole lines but the last in turn, and says where that one stands.
+fn apply_before_last(
+    alloc: Global,
+    amended: &mut Unsettled,
+    bytes: &[u8],
+) -> Result<Option<LastLine>, JournalFault>
     requires unamended { amended.old.stamps.accepted ≡ 0 }
-    ensures { MatchResult result (IsEnd amended.old amended.new bytes.now) (IsReplayFault amended.old bytes.now) }
+    ensures { MatchResult result (IsBeforeLast amended.old amended.new bytes.now) (IsReplayFault amended.old bytes.now) }
 {
     let mut start = 0;
     let mut number = 0;
-    'lines: while let Some(end) = line_end(bytes, start) {
+    let mut line = line_end(bytes, 0);
+    'lines: while let Some(end) = line {
         number += 1;
+        // Where the next line begins can be counted.
+        prove!(end < bytes.len());
+        line = line_end(bytes, end + 1);
+        if line.is_none() {
+            return Ok(Some(LastLine { number, start, end }));
+        }
         if let Err(cause) = apply_line(alloc, amended, number, &bytes[start..end]) {
             return Err(JournalFault::at(number, cause));
         }
         start = end + 1;
     }
-    Ok(start)
+    Ok(None)
+}
+
+/// Makes the amendments of the whole lines in turn, and says where the last of them ends.
+fn apply_lines(alloc: Global, amended: &mut Unsettled, bytes: &[u8]) -> Result<usize, JournalFault>
+    requires unamended { amended.old.stamps.accepted ≡ 0 }
+    ensures { MatchResult result (IsEnd amended.old amended.new bytes.now) (IsReplayFault amended.old bytes.now) }
+{
+    let Some(last) = apply_before_last(alloc, amended, bytes)? else {
+        return Ok(0);
+    };
+    match apply_line(alloc, amended, last.number, &bytes[last.start..last.end]) {
+        Ok(()) => Ok(last.end + 1),
+        Err(cause) => Err(JournalFault::at(last.number, cause)),
+    }
+}
+
+/// Settles papers, and makes the amendment of the line of this number, which is the next, in the clearing of them.
+fn settle_and_amend(
+    alloc: Global,
+    amended: Unsettled,
+    number: u64,
+    text: &[u8],
+) -> Result<Clearing, JournalCause>
+    requires next { number ≡ amended.stamps.accepted + 1 }
+    ensures { MatchResult result (λ clearing. IsSettledLine amended clearing number text.now)
+        (IsCauseOrMemory amended.papers number text.now) }
+{
+    let amendment = match amendment_of(alloc, number, text) {
+        Ok(amendment) => amendment,
+        Err(cause) => return Err(cause),
+    };
+    let mut clearing = match amended.settle(alloc) {
+        Ok(clearing) => clearing,
+        Err(_) => return Err(JournalCause::OutOfMemory),
+    };
+    match clearing.papers().check(&amendment) {
+        Ok(()) => (),
+        Err(refusal) => return Err(JournalCause::Refused(refusal)),
+    }
+    match clearing.amend_allowed(amendment) {
+        Ok(()) => Ok(clearing),
+        Err(_) => Err(JournalCause::OutOfMemory),
+    }
 }
 
 /// How a journal ends whose last newline stands before an index.
@@ -129,19 +190,29 @@ pub fn replay_papers(
     Ok((amended, tail))
 }
 
-/// Does what `replay_papers` does, and opens a clearing of the papers as they then stand, with their stamps.
-/// The cost is one settling more.
+/// Does what `replay_papers` does, and answers a clearing of the papers as they then stand, with their stamps: as
+/// `Clearing::open` and `amend` by each line leave it, so that its last count of proposals is that of the last line,
+/// or of the opening where there is no line.
+///
+/// The cost is that of `replay_papers`, of one settling, and of one `Clearing::amend`: all lines but the last are amended
+/// unsettled.
 pub fn replay(alloc: Global, papers: Papers, bytes: &[u8]) -> Result<(Clearing, Tail), JournalFault>
-    ensures replay { MatchResult result (λ done. IsReplay (unamended papers) (stamped_papers done.0) bytes.now done.1)
+    ensures replay { MatchResult result (λ done. LeavesClearing (unamended papers) done.0 bytes.now done.1)
         (IsReplayFault (unamended papers) bytes.now) }
     ensures certified { IfOk result (λ done. IsCertified done.0.standing) }
-    ensures proposals { IfOk result (λ done. done.0.standing.proposals ≡ proposals_from_scratch done.0.standing) }
 {
-    let (amended, tail) = replay_papers(alloc, papers, bytes)?;
-    // One settling at the end is enough: the standing assignment of the papers is the same however they
-    // came to be as they are.
-    match amended.settle(alloc) {
-        Ok(clearing) => Ok((clearing, tail)),
-        Err(_) => Err(JournalFault::no_memory()),
+    let mut amended = match Unsettled::new(alloc, papers) {
+        Ok(amended) => amended,
+        Err(_) => return Err(JournalFault::no_memory()),
+    };
+    let Some(last) = apply_before_last(alloc, &mut amended, bytes)? else {
+        let Ok(clearing) = amended.settle(alloc) else {
+            return Err(JournalFault::no_memory());
+        };
+        return Ok((clearing, tail_after(bytes, 0)));
+    };
+    match settle_and_amend(alloc, amended, last.number, &bytes[last.start..last.end]) {
+        Ok(clearing) => Ok((clearing, tail_after(bytes, last.end + 1))),
+        Err(cause) => Err(JournalFault::at(last.number, cause)),
     }
 }

@@ -170,8 +170,10 @@ impl Clearing {
         self.settlement.segments.flat()
     }
 
-    /// How many proposals the last settling made: that of the last accepted amendment, or of the
-    /// opening.
+    /// How many proposals the last settling comes to. Of a clearing from `open`, `resume` or `Unsettled::settle` those of
+    /// all students, from scratch; after an accepted `amend` those of its region's students from the rewind point on; of
+    /// one from a journal's replay those of the last line, or of the opening where there is none. A proposal is
+    /// one student's asking one school in a chain, also where a turn is known to stay and is not run again.
     pub fn proposals_last(&self) -> u64
         ensures { result ≡ self.now.standing.proposals }
     {

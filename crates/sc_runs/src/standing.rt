@@ -5,7 +5,7 @@ ghost use Rattle.sc_repair.specs.Standing.{IsCertified};
 ghost use Rattle.sc_steps.specs.Steps.{papers_held};
 ghost use Rattle.sc_runs.specs.Standing.{IsStandingFault, Stands};
 
-use sc_journal::{Tail, replay};
+use sc_journal::{Tail, replay_papers};
 use sc_papers::Seed;
 use sc_repair::Clearing;
 use sc_steps::{OpeningSlices, RunFault, read_papers};
@@ -26,6 +26,10 @@ pub fn clearing_after(
     ensures refused { IfErr result (IsStandingFault (papers_held seed.now texts.entry) journal.now) }
 {
     let papers = read_papers(alloc, seed, texts)?;
-    let stood = replay(alloc, papers, journal)?;
-    Ok(stood)
+    let (amended, tail) = replay_papers(alloc, papers, journal)?;
+    // Who tells a text of what stands asks for no count of proposals, so one settling is enough.
+    match amended.settle(alloc) {
+        Ok(clearing) => Ok((clearing, tail)),
+        Err(_) => Err(RunFault::OutOfMemory),
+    }
 }

@@ -70,6 +70,42 @@ fn expect_replays(rt: &impl Abort, alloc: Global, table: &[(&str, &str)]) {
     }
 }
 
+/// How many proposals the last settling of a replay comes to.
+fn counted(
+    alloc: Global,
+    replayed: Result<(Clearing, Tail), JournalFault>,
+) -> Result<String, AllocError> {
+    match replayed {
+        Ok((clearing, _)) => {
+            let text = format!(in alloc; "{}", clearing.proposals_last());
+            drop(clearing);
+            text
+        }
+        Err(fault) => format!(in alloc; "{} {:?}", fault.line, fault.cause),
+    }
+}
+
+/// The same of a journal over Market B.
+fn proposals_after(alloc: Global, journal: &str) -> Result<String, AllocError> {
+    match market_b(alloc) {
+        Ok(papers) => counted(alloc, replay(alloc, papers, journal.as_bytes())),
+        Err(fault) => format!(in alloc; "{fault}"),
+    }
+}
+
+// As an opening and an amendment by each line leave it: the count is that of the last line, or of the opening.
+#[test]
+fn replays_count_the_last_line(rt: HostRuntime) {
+    for (journal, want) in &[
+        ("", "2"),
+        ("1,enter,3,1,10,10\n", "3"),
+        ("1,enter,3,1,10,10\n2,withdraw,3\n", "0"),
+        ("1,enter,3,1,10,10\n2,add,10,1\n", "3"),
+    ] {
+        expect_text(&rt, proposals_after(rt.alloc(), journal), want, journal);
+    }
+}
+
 #[test]
 fn line_numbers(rt: HostRuntime) {
     for (number, next) in &[(1, 2), (999_999_998, 999_999_999)] {
