@@ -59,24 +59,26 @@ impl<O, T: Write + Drop> Counted<O, T> {
             show(self.alloc, self.replies, terminal);
         }
     }
+}
 
-    /// Notes what was written: a reply begins with its number, and the report after the replies with a word.
-    fn note(&mut self, bytes: &[u8])
-        ensures output { self.new.output ≡ self.old.output }
-    {
-        match bytes {
-            [b'0'..=b'9', ..] => self.count(),
-            _ => self.end(),
-        }
-    }
+/// Whether bytes are a reply: one begins with its number, and the report after the replies with a word.
+fn are_reply(bytes: &[u8]) -> bool {
+    matches!(bytes, [b'0'..=b'9', ..])
 }
 
 impl<O: Write, T: Write + Drop> Write for Counted<O, T> {
     ghost contents = { λ c. O.contents c.output };
 
     fn write(&mut self, bytes: &[u8]) -> io::Result<usize> {
+        let is_reply = are_reply(bytes);
+        // The line is wiped before the report is seen.
+        if !is_reply {
+            self.end();
+        }
         let written = self.output.write(bytes)?;
-        self.note(bytes);
+        if is_reply {
+            self.count();
+        }
         Ok(written)
     }
 

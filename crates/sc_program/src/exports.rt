@@ -12,15 +12,40 @@ use std::io::Write;
 use std::path::Path;
 use std::rt::Files;
 
-/// Writes a text whole into the file of exported papers that was made for it, and flushes it.
-pub fn fill_made<W: Write>(
-    made: &mut Watched<W>,
+/// Where a file was made, so that it can be taken away again.
+pub trait Place {
+    /// Takes the file away. Where that cannot be, nothing more can be done.
+    fn take_away(self);
+}
+
+/// The place of a file among those of the system.
+struct FilePlace<'a, R> {
+    rt: &'a R,
+    path: &'a Path,
+}
+
+impl<'a, R: Files> Place for FilePlace<'a, R> {
+    fn take_away(self) {
+        let _ = remove_file(self.rt, self.path);
+    }
+}
+
+/// Writes a text whole into the file of exported papers that was made for it, and flushes it. One that cannot be written
+/// whole is taken away.
+pub fn fill_made<W: Write + Drop, P: Place + Drop>(
+    mut made: Watched<W>,
+    place: P,
     file: PapersFile,
     text: &[u8],
 ) -> Result<(), Ending> {
-    match fill(made, text) {
+    let filled = fill(&mut made, text);
+    drop(made);
+    match filled {
         Ok(()) => Ok(()),
-        Err(_) => Err(Ending::Unwritten { file }),
+        Err(_) => {
+            place.take_away();
+            Err(Ending::Unwritten { file })
+        }
     }
 }
 
@@ -35,7 +60,7 @@ fn write_new<R: Files + AllocGlobal>(
     let Ok(path) = Path::new(folder).join(rt.alloc(), file.name()) else {
         return Err(Ending::Fault(RunFault::OutOfMemory));
     };
-    let mut made = match OpenOptions::new()
+    let made = match OpenOptions::new()
         .write(true)
         .create_new(true)
         .open(rt, &path)
@@ -46,13 +71,7 @@ fn write_new<R: Files + AllocGlobal>(
         }
         Err(_) => return Err(Ending::Unwritten { file }),
     };
-    let filled = fill_made(&mut made, file, text);
-    drop(made);
-    if filled.is_err() {
-        // Where it cannot be removed, nothing more can be done.
-        let _ = remove_file(rt, &path);
-    }
-    filled
+    fill_made(made, FilePlace { rt, path: &path }, file, text)
 }
 
 /// Writes the files of papers into a folder, in the order schools, roster, lists. An empty text names no folder.

@@ -10,5 +10,5 @@ mod journal;
 mod messages;
 mod performing;
 
-pub use exports::fill_made;
+pub use exports::{Place, fill_made};
 pub use performing::{end_without_words, perform};

@@ -248,4 +248,6 @@ fn a_check(rt: HostRuntime) {
     let line = ".: a file that can be read is expected; it cannot be read to its end. Unread\n";
     let unread = "clearinghouse: cannot read lists\n4";
     expect(&rt, checked(&rt, ".", None), line, unread);
+    let unread = "clearinghouse: cannot read script\n4";
+    expect(&rt, checked(&rt, "lists", Some(".")), line, unread);
 }

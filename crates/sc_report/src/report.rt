@@ -1,4 +1,5 @@
-ghost use Rattle.std.specs.Prelude.{◌≡◌, ◌||◌, length};
+ghost use Rattle.std.specs.Prelude.{◌≡◌, ◌||◌, Err, length};
+ghost use Rattle.std.specs.Io.KnownBytes.{Keeps};
 ghost use Rattle.sc_papers.specs.Matching.{Matching};
 ghost use Rattle.sc_repair.specs.Standing.{matching_of};
 ghost use Rattle.sc_report.specs.Report.{WritesReport, is_write_fault};
@@ -48,8 +49,8 @@ impl From<AllocError> for ReportFault {
 /// Writes the report text of papers, of the school that each student has, of which there is one for each student in order of
 /// entry, `None` where they have none, and of the tallies of the schools by these.
 ///
-/// The text is built first: after `OutOfMemory` nothing was written, and after `Write` a prefix of
-/// it was.
+/// The text is built first: after `OutOfMemory` nothing was written, whatever the places and the tallies are of, and after
+/// `Write` a prefix of it was.
 pub fn write_report_of<W: Write>(
     alloc: Global,
     matched: Matched<'_>,
@@ -61,6 +62,8 @@ pub fn write_report_of<W: Write>(
         → AreTallies matched.entry.papers.now a matched.entry.tallies.items
         → WritesReport matched.entry.papers.now a
         (W.contents (device_of to.old)) (W.contents (device_of to.new)) result }
+    ensures unwritten { result ≡ Err fault.OutOfMemory
+        → Keeps (W.contents (device_of to.old)) (W.contents (device_of to.new)) }
     ensures failed { has_failed to.new ≡ (has_failed to.old || is_write_fault result) }
 {
     let pages = report_pages(alloc, matched)?.finish()?;

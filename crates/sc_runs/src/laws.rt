@@ -1,6 +1,6 @@
 //! What the texts of a run come to. Each function does nothing: its contract is the law.
 ghost use Rattle.std.specs.Io.{StartsWith};
-ghost use Rattle.std.specs.Prelude.{◌≡◌, ℕ, ◌≤◌, ◌++◌, [], List, codes, length, Result, Ok, Some};
+ghost use Rattle.std.specs.Prelude.{◌≡◌, ℕ, ◌≤◌, ◌&&◌, nat_le, ◌++◌, [], List, codes, length, Result, Ok, Some};
 ghost use Rattle.sc_papers.specs.Market.{Market};
 ghost use Rattle.sc_papers.specs.Interleaving.{IsInterleaving};
 ghost use Rattle.sc_papers.specs.Matching.{IsStudentOptimal, Matching};
@@ -44,15 +44,37 @@ pub fn greatest_numbers_are_these()
     ensures stamp { Stamp.GREATEST ≡ 999999999 }
 {}
 
-/// Which numbers are taken, from the least to the greatest: each of these and no other.
-pub fn numbers_are_taken_in_these_ranges(number: u32) {
-    prove!(StudentNo::new(number).is_some() == (1 <= number && number <= 999_999_999));
-    prove!(SchoolNo::new(number).is_some() == (1 <= number && number <= 99_999));
-    prove!(Zone::new(number).is_some() == (number <= 9_999));
-    prove!(Seats::new(number).is_some() == (number <= 10_000));
-    prove!(Count::new(number).is_some() == (1 <= number && number <= 10_000));
-    prove!(LineNo::new(number).is_some() == (1 <= number && number <= 999_999_999));
-    prove!(Stamp::new(number).is_some() == (number <= 999_999_999));
+/// As what a number is taken.
+#[derive(Clone, Copy, Debug, PartialEq, Eq)]
+pub struct TakenAs {
+    pub student: bool,
+    pub school: bool,
+    pub zone: bool,
+    pub seats: bool,
+    pub count: bool,
+    pub line: bool,
+    pub stamp: bool,
+}
+
+/// Which numbers are taken by each kind's `new`: these and no other, from the least to the greatest.
+pub fn numbers_are_taken_in_these_ranges(number: u32) -> TakenAs
+    ensures student { result.student ≡ (nat_le 1 number && nat_le number 999999999) }
+    ensures school { result.school ≡ (nat_le 1 number && nat_le number 99999) }
+    ensures zone { result.zone ≡ nat_le number 9999 }
+    ensures seats { result.seats ≡ nat_le number 10000 }
+    ensures count { result.count ≡ (nat_le 1 number && nat_le number 10000) }
+    ensures line { result.line ≡ (nat_le 1 number && nat_le number 999999999) }
+    ensures stamp { result.stamp ≡ nat_le number 999999999 }
+{
+    TakenAs {
+        student: StudentNo::new(number).is_some(),
+        school: SchoolNo::new(number).is_some(),
+        zone: Zone::new(number).is_some(),
+        seats: Seats::new(number).is_some(),
+        count: Count::new(number).is_some(),
+        line: LineNo::new(number).is_some(),
+        stamp: Stamp::new(number).is_some(),
+    }
 }
 
 /// The journal of a run is replayed, over the papers of the opening, to the papers after the run, order

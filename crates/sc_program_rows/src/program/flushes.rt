@@ -1,5 +1,5 @@
 //! Flushes of what the program writes beside its output: no clause can speak of one.
-use sc_program::{end_without_words, fill_made, perform};
+use sc_program::{Place, end_without_words, fill_made, perform};
 use sc_report::Watched;
 use sc_report::devices::{Ending as DeviceEnding, FailingWriter};
 use sc_runs::{Ending, PapersFile};
@@ -22,15 +22,49 @@ fn expect_flushed(rt: &impl Abort, mut to: FailingWriter, text: &str) {
 
 const HEADER: &str = "school,zone,seats\n";
 
+/// A place that notes that its file was taken away.
+#[derive(Drop)]
+struct NotedPlace<'a> {
+    is_gone: &'a mut bool,
+}
+
+impl<'a> Place for NotedPlace<'a> {
+    fn take_away(self) {
+        *self.is_gone = true;
+    }
+}
+
 #[test]
 fn an_exported_file_that_cannot_be_flushed(rt: HostRuntime) {
     for file in [PapersFile::Schools, PapersFile::Roster, PapersFile::Lists] {
-        let mut made = Watched::new(unflushed(&rt, rt.alloc(), HEADER));
-        let answer = fill_made(&mut made, file, HEADER.as_bytes());
+        let mut made = unflushed(&rt, rt.alloc(), HEADER);
+        let mut is_gone = false;
+        let place = NotedPlace {
+            is_gone: &mut is_gone,
+        };
+        let answer = fill_made(Watched::new(&mut made), place, file, HEADER.as_bytes());
         assert!(rt; answer == Err(Ending::Unwritten { file }));
-        assert!(rt; made.failed());
-        assert!(rt; made.inner().taken() == HEADER.as_bytes());
+        assert!(rt; is_gone);
+        assert!(rt; made.taken() == HEADER.as_bytes());
     }
+}
+
+#[test]
+fn an_exported_file_that_is_whole_stays(rt: HostRuntime) {
+    let mut made = Vec::new(rt.alloc());
+    let mut is_gone = false;
+    let place = NotedPlace {
+        is_gone: &mut is_gone,
+    };
+    let answer = fill_made(
+        Watched::new(&mut made),
+        place,
+        PapersFile::Lists,
+        HEADER.as_bytes(),
+    );
+    assert!(rt; answer == Ok(()));
+    assert!(rt; !is_gone);
+    assert!(rt; made.as_slice() == HEADER.as_bytes());
 }
 
 const BUNDLE: &str = "clearinghouse: bundle\n";

@@ -86,4 +86,13 @@ fn tables_of_a_report(rt: HostRuntime) {
     for (subcommand, options, want) in TABLES {
         expect(&rt, ordered(&rt, subcommand, options), "", want);
     }
+    let torn = "student,school\n1,20\n2,-\n3,10\nclearinghouse: journal torn\n0";
+    let journal = ("journal", "1,enter,3,1,10,10\n2,withdraw,3");
+    let options = &["--table=assignment", "--journal", "journal"];
+    expect(
+        &rt,
+        ordered_after(&rt, journal, "replay", options),
+        "",
+        torn,
+    );
 }

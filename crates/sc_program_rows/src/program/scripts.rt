@@ -2,6 +2,7 @@
 use super::{NEWCOMER, REPORT, expect, ordered_after, ordering, write_files};
 use sc_program::perform;
 use sc_report::devices::{Ending, FailingWriter};
+use std::fs::OpenOptions;
 use std::{fs, io};
 
 /// Journals over Market B, and the report and the end of the replay of each.
@@ -107,6 +108,30 @@ fn a_terminal_shows_how_many_records_are_answered(rt: HostRuntime) {
         "\rrecords answered: 1\rrecords answered: 2\r                                        \r";
     expect(&rt, shown(&rt, RUN_SETTLED_EACH_TIME), want, "");
     expect(&rt, shown(&rt, RUN), "", "");
+}
+
+/// What a screen shows to which both the output and the terminal of a run go that settles each time.
+fn on_one_screen(rt: &HostRuntime) -> io::Result<String> {
+    let alloc = rt.alloc();
+    fs::write(rt, "script", "0,enter,3,1,10,10\n")?;
+    fs::write(rt, "screen", "")?;
+    let words = ordering(alloc, "run", "schools", RUN_SETTLED_EACH_TIME)?;
+    let output = OpenOptions::new().append(true).open(rt, "screen")?;
+    let terminal = OpenOptions::new().append(true).open(rt, "screen")?;
+    let errors: Vec<u8> = Vec::new(alloc);
+    let input = b"".as_slice();
+    perform(rt, words.as_slice(), input, output, errors, Some(terminal));
+    let screen = fs::read(rt, "screen")?;
+    Ok(String::from_utf8_lossy(alloc, screen.as_slice())?)
+}
+
+#[test]
+fn the_count_is_wiped_before_the_report(rt: HostRuntime) {
+    write_files(&rt);
+    let counted = "1,ok\n\rrecords answered: 1";
+    let wiped = "\r                                        \r";
+    let want = format!(in rt.alloc(); "{counted}{wiped}{NEWCOMER}").expect(&rt, "memory");
+    expect(&rt, on_one_screen(&rt), "", want.as_str());
 }
 
 /// Three amendments that are alike, so that one made twice would show.
