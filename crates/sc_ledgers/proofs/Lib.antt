@@ -40,6 +40,7 @@ pub mod Struck
 pub mod Sweeping
 pub mod TurnEnds
 pub mod TurnPlaces
+pub mod OneLog
 pub mod Turning
 pub mod TurnsCounted
 pub mod TurnsMade

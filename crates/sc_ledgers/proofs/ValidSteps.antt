@@ -16,7 +16,7 @@ use Rattle.sc_papers.proofs.Validity.{next-among}
 
 module _ (m : Market) (well : WellFormed m) (log : List Rejection) where
   -- the school of one's next choice is held by one more than the others
-  held-split : (i s : ℕ) → next_choice m log i ≡ Some s → held m (matching_of m log) s ≡ 1 + held_by_others m log i s
+  pub held-split : (i s : ℕ) → next_choice m log i ≡ Some s → held m (matching_of m log) s ≡ 1 + held_by_others m log i s
   held-split i s next = how_many-split m well (has (matching_of m log) s) i (next-among m log i s next) (has-some (matching_of m log) s i next)
 
   -- any other school is held by others alone
@@ -33,7 +33,7 @@ module _ (m : Market) (well : WellFormed m) (log : List Rejection) where
       and_from (has (matching_of m log) s j) (not (j == i)) parts.0
       (ap not (ne_eqb j i (λ same. false≢true (sym (ahead-irrefl m s i) ∙ ap (λ k. is_ahead m s k i) (sym same) ∙ parts.1))))
 
-  rivals-others : (i s : ℕ) → rivals m log i s ≤ held_by_others m log i s
+  pub rivals-others : (i s : ℕ) → rivals m log i s ≤ held_by_others m log i s
   rivals-others i s = how_many-le m (λ j. has (matching_of m log) s j && is_ahead m s j i) (λ j. has (matching_of m log) s j && not (j == i)) (rival-other i s)
 
   -- only the school to which the one in hand proposes can be too full

@@ -59,7 +59,7 @@ filter-twice : {X : Type 0} (p q : X → Bool) (xs : List X) → filter q (filte
 filter-twice p q [] = refl
 filter-twice p q (x ∷ xs) = grind (arith, common_steps, filter-twice p q xs)
 
-restricted-twice : (m : Market) (p q : ℕ → Bool) → restricted (restricted m p) q ≡ restricted m (λ j. p j && q j)
+pub restricted-twice : (m : Market) (p q : ℕ → Bool) → restricted (restricted m p) q ≡ restricted m (λ j. p j && q j)
 unfolding restricted
 restricted-twice m p q = λ t. record m { students = filter-twice (λ e. p e.0) (λ e. q e.0) m.students t }
 

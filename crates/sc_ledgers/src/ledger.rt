@@ -152,6 +152,12 @@ impl Ledger {
         }
     }
 
+    /// How many places for labels it has, those of struck ones too. A count for whoever weighs what a question costs: no clause
+    /// says anything of it.
+    pub(crate) fn len(&self) -> usize {
+        self.turns.len()
+    }
+
     /// The ledger of labels that come in any order: of those of one key, one is kept. The only error is a refused growth. The cost is
     /// a sort.
     pub(crate) fn of(alloc: Global, labels: Vec<Label>) -> Result<Self, AllocError>

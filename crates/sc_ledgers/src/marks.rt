@@ -50,6 +50,11 @@ impl Marks {
         Ok(marks)
     }
 
+    /// About how many schools are marked: no clause says anything of it.
+    pub(crate) fn count(&self) -> usize {
+        self.places.len()
+    }
+
     /// Whether the school at a position is marked.
     pub fn has(&self, place: usize) -> bool
         ensures { result ≡ get_or self.now.flags place false }

@@ -11,6 +11,7 @@ use crate::elsewhere::Stances;
 use crate::following::Rows;
 use crate::marks::Marks;
 use crate::opened::Ledgers;
+use crate::patience::Patience;
 use crate::proposals::end_place;
 use crate::renewal::Renewal;
 use crate::sweep::take_turn;
@@ -29,7 +30,8 @@ pub(crate) fn turn_at(papers: &FlatPapers, position: usize) -> u32
 }
 
 /// Takes the turn of the student at a position, and notes its segment if it was taken anew. The list for the chain is empty before it
-/// and after it. After a refused growth all is to be given up.
+/// and after it. The answer is about how many questions were put to schools, times the schools. After a refused growth all is to be
+/// given up.
 fn take_next(
     rows: &Rows<'_>,
     ledgers: &mut Ledgers,
@@ -39,7 +41,7 @@ fn take_next(
     position: usize,
     renewal: &mut Renewal,
     chain: &mut Vec<Rejection>,
-) -> Result<(), AllocError>
+) -> Result<usize, AllocError>
     requires one_each { length ledgers.old.schools.items ≡ length rows.now.papers.now.schools }
     requires none { chain.old.items ≡ [] }
     requires flagged { length marks.old.flags ≡ length rows.now.papers.now.schools }
@@ -60,17 +62,22 @@ fn take_next(
     let old = segments.segment(position);
     let end = ledgers.ends.get(position);
     let schools = &mut ledgers.schools;
+    let mut asked = old.len().saturating_mul(marks.count());
     if take_turn(rows, schools, stances, marks, turn, old, end, chain)? {
         let end = end_place(rows.papers, position, chain.as_slice());
         ledgers.ends.set(position, end);
         renewal.push(position, segments.student(position), chain.as_slice())?;
+        let both = old.len().saturating_add(chain.len());
+        asked = both
+            .saturating_add(2)
+            .saturating_mul(rows.papers.schools_len());
         chain.clear();
     }
-    Ok(())
+    Ok(asked)
 }
 
-/// Takes the turns of a region in turn, from the rewind point on: their positions rise. Whatever is taken anew is noted. After a refused
-/// growth all is to be given up.
+/// Takes the turns of a region in turn, from the rewind point on: their positions rise. Whatever is taken anew is noted. It ends with an
+/// error where a growth is refused, and where it has cost as much as a settling from scratch. All is to be given up then.
 pub(crate) fn sweep(
     alloc: Global,
     rows: &Rows<'_>,
@@ -93,11 +100,15 @@ pub(crate) fn sweep(
     ensures owners { OnOk result (AreTheirs (students_in segments.now) renewal.old → AreTheirs (students_in segments.now) renewal.new) }
 {
     let mut chain = Vec::new(alloc);
+    let mut patience = Patience::new(rows.papers);
     for position in positions {
         let at = *position;
-        take_next(
+        let asked = take_next(
             rows, ledgers, stances, marks, segments, at, renewal, &mut chain,
         )?;
+        if patience.is_over(asked, rows.papers, ledgers.schools.as_slice()) {
+            return Err(AllocError);
+        }
     }
     Ok(())
 }

@@ -1,6 +1,6 @@
 //! Where a turn ended, and how many proposals the turns of some students made.
 
-ghost use Rattle.std.specs.Prelude.{◌≡◌, ◌<◌, ◌≤◌, ◌+◌, ◌-◌, IfSome, is_some, length, map, if◌then◌else◌};
+ghost use Rattle.std.specs.Prelude.{◌≡◌, ◌<◌, ◌≤◌, ◌+◌, ◌-◌, IfSome, None, get_or, is_some, length, map, if◌then◌else◌};
 ghost use Rattle.sc_papers.specs.Market.{student_at};
 ghost use Rattle.sc_papers.specs.Restriction.{IsSegmented};
 ghost use Rattle.sc_checkpoint.specs.Chains.{logs_in};
@@ -65,6 +65,50 @@ fn made_in(segment: &[Rejection], end: Option<usize>) -> u64
     segment.len() as u64 + u64::from(end.is_some())
 }
 
+/// Where the turn at a position ended, of which these rejections came: that is kept, or looked up.
+fn end_at(
+    papers: &FlatPapers,
+    ends: Option<&Ends>,
+    at: usize,
+    segment: &[Rejection],
+) -> Option<usize>
+    requires within { at < length papers.now.students }
+    requires low { IfSome ends (λ kept. at < length kept.now) }
+    requires kept { IfSome ends (λ kept. get_or kept.now at None
+        ≡ place_of papers.now (end_of papers.now (student_at papers.now at) segment.now)) }
+    ensures { result ≡ place_of papers.now (end_of papers.now (student_at papers.now at) segment.now) }
+{
+    match ends {
+        Some(kept) => kept.get(at),
+        None => end_place(papers, at, segment),
+    }
+}
+
+/// What `proposals_at` says, and by the segments alone where no ends are kept.
+fn count_made(
+    papers: &FlatPapers,
+    segments: &Segments,
+    ends: Option<&Ends>,
+    positions: &[usize],
+    gap: usize,
+) -> u64
+    requires within { LieBelow (length segments.now) (map (λ p. p - gap) positions.now) }
+    requires few { length positions.now ≤ length papers.now.students }
+    requires run { IsSegmented papers.now (logs_in segments.now) }
+    requires ends { IfSome ends (λ kept. AreEnds papers.now (logs_in segments.now) kept.now) }
+    ensures { result ≡ made_at papers.now (logs_in segments.now) (map (λ p. p - gap) positions.now) }
+{
+    // This call tells that the papers are well-formed and within their limits, so that a log is not too long to be counted.
+    prove!(papers.students_len() <= MOST_STUDENTS);
+    let mut count = 0_u64;
+    for position in positions {
+        let at = position.saturating_sub(gap);
+        let segment = segments.segment(at);
+        count += made_in(segment, end_at(papers, ends, at, segment));
+    }
+    count
+}
+
 /// How many proposals the turns at these positions made, of all whose segments these are. Where a student has left, whoever stood behind
 /// stands one position further on: the turns counted are those at each position less the gap.
 ///
@@ -82,12 +126,20 @@ pub fn proposals_at(
     requires ends { AreEnds papers.now (logs_in segments.now) ends.now }
     ensures { result ≡ made_at papers.now (logs_in segments.now) (map (λ p. p - gap) positions.now) }
 {
-    // This call tells that the papers are well-formed and within their limits, so that a log is not too long to be counted.
-    prove!(papers.students_len() <= MOST_STUDENTS);
-    let mut count = 0_u64;
-    for position in positions {
-        let at = position.saturating_sub(gap);
-        count += made_in(segments.segment(at), ends.get(at));
-    }
-    count
+    count_made(papers, segments, Some(ends), positions, gap)
+}
+
+/// What `proposals_at` says, where it is not kept where each turn ended: it is looked up for the turns at these positions.
+pub fn proposals_of(
+    papers: &FlatPapers,
+    segments: &Segments,
+    positions: &[usize],
+    gap: usize,
+) -> u64
+    requires within { LieBelow (length segments.now) (map (λ p. p - gap) positions.now) }
+    requires few { length positions.now ≤ length papers.now.students }
+    requires run { IsSegmented papers.now (logs_in segments.now) }
+    ensures { result ≡ made_at papers.now (logs_in segments.now) (map (λ p. p - gap) positions.now) }
+{
+    count_made(papers, segments, None, positions, gap)
 }

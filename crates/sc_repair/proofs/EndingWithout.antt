@@ -42,7 +42,7 @@ use Rattle.sc_repair.specs.Standing.{CountsInside, IsAmended, IsCertified}
 use Rattle.sc_repair.proofs.RegionTurns.{turns-of}
 use Rattle.sc_repair.proofs.Regional.{counts-region, keeps-others, region-apart_after}
 use Rattle.sc_repair.proofs.Resumption.{certified-of, length-students}
-use Rattle.sc_repair.proofs.StartingWithout.{leaver-count, leaver-here, leaver-low, leaver-tells, marks-test, rows_without, MayLeave}
+use Rattle.sc_repair.proofs.StartingWithout.{leaver-count, leaver-here, leaver-low, leaver-tells, marks-test, rows_without, Leaves, MayLeave}
 
 -- what stands before an item of a list stays once it is gone
 take-remove : {X : Type 0} (xs : List X) (p : ℕ) → take p (remove xs p) ≡ take p xs
@@ -70,14 +70,43 @@ marks-behind marks point from (suc count) low within =
     ]
 
 -- turns up to an end are below it, and no more than there are
-turns-below : (n : Market) (test : ℕ → Bool) (from end : ℕ) (positions : List ℕ) → AreTurnsOf n test from end positions → LieBelow end positions
+pub turns-below : (n : Market) (test : ℕ → Bool) (from end : ℕ) (positions : List ℕ) → AreTurnsOf n test from end positions → LieBelow end positions
 turns-below n test from end [] turns k low = absurd (omega (arith, low))
 turns-below n test from end (p ∷ positions) (first, below, none, passes, later) zero low = below
 turns-below n test from end (p ∷ positions) (first, below, none, passes, later) (suc k) low = turns-below n test (p + 1) end positions later k (omega (arith, low))
 
-turns-few : (n : Market) (test : ℕ → Bool) (from end : ℕ) (positions : List ℕ) → AreTurnsOf n test from end positions → length positions ≤ end - from
+pub turns-few : (n : Market) (test : ℕ → Bool) (from end : ℕ) (positions : List ℕ) → AreTurnsOf n test from end positions → length positions ≤ end - from
 turns-few n test from end [] turns = omega arith
 turns-few n test from end (p ∷ positions) (first, below, none, passes, later) = omega (arith, first, below, turns-few n test (p + 1) end positions later)
+
+-- of papers that a student has left, the turns of the region behind theirs, each of which stood one position further on
+pub turns-behind : {m : Market} {i point : ℕ} {marks : List Bool} {chains : List Chain} (leaves : Leaves m i point marks chains) (n : Market) → n ≡ without_student m i → (end : ℕ) → end ≡ length (students_of n) → (behind : List ℕ) → behind ≡ marked_from marks (point + 1)
+    → AreTurnsOf n (is_among (marked_in marks chains)) point end (map (λ p. p - 1) behind)
+turns-behind {m} {i} {point} {marks} {chains} leaves n gone end is behind these =
+    let test : ℕ → Bool = is_among (marked_in marks chains) in
+    subst (AreTurnsOf n test point end) (sym (ap (map (λ p. p - 1)) these ∙ marks-behind marks point point (length marks - (point + 1)) (omega arith) (omega (arith, marks-long, leaver-low leaves))))
+    (turns-of n test (remove marks point) end point (length marks - (point + 1)) (omega (arith, marks-long, leaver-low leaves, is, as-many)) told)
+  where
+    marks-long : length marks ≡ length (students_of m)
+    marks-long = omega (arith, leaves.region.one_each, length-students m)
+
+    students : students_of n ≡ remove (students_of m) point
+    students = ap students_of gone ∙ students-without m point i leaves.well_formed (leaver-here leaves)
+
+    as-many : length (students_of n) + 1 ≡ length (students_of m)
+    as-many = omega (arith, ap (λ (xs : List ℕ). length xs) students, length-remove (students_of m) point (leaver-low leaves))
+
+    told : (p : ℕ) → p < end → get_or (remove marks point) p false ≡ is_among (marked_in marks chains) (student_at n p)
+    told p low = elim (cases_lt p point) [
+      | inl before ↦
+          get_or-remove_below marks point false p before (omega (arith, marks-long, leaver-low leaves))
+          ∙ marks-test m (Withdraw i) marks (is_among (marked_in marks chains)) leaves.region (leaver-tells leaves) p (omega (arith, before, leaver-low leaves))
+          ∙ ap (is_among (marked_in marks chains)) (sym (ap (λ xs. get_or xs p 0) students ∙ get_or-remove_below (students_of m) point 0 p before (leaver-low leaves)))
+      | inr from ↦
+          get_or-remove_above marks point false p from (omega (arith, marks-long, leaver-low leaves))
+          ∙ marks-test m (Withdraw i) marks (is_among (marked_in marks chains)) leaves.region (leaver-tells leaves) (p + 1) (omega (arith, low, is, as-many))
+          ∙ ap (is_among (marked_in marks chains)) (sym (ap (λ xs. get_or xs p 0) students ∙ get_or-remove_above (students_of m) point 0 p from (leaver-low leaves)))
+    ]
 
 -- the turns of the region were taken anew, as if the student did not enter, and then the student has left: the papers, the chains and the
 -- ledgers are without them
@@ -101,26 +130,26 @@ module _ {m n : Market} {i point : ℕ} {marks : List Bool} {papers : Bor Market
   whole-before = subst (λ p. AreWhole (cohort p enters) (logs_in new) (labels_of p anew.schools.items)) has.same has.settled.whole
 
   well : WellFormed n
-  well = subst WellFormed (sym has.gone) (WellFormed-without_student m i may.well_formed)
+  well = subst WellFormed (sym has.gone) (WellFormed-without_student m i may.leaves.well_formed)
 
   -- the segments without the student's
   logs : logs_in fewer ≡ remove (logs_in new) point
   logs = ap logs_in has.removed ∙ map-remove (λ (c : Chain). c.rejections) new point
 
   students : students_of n ≡ remove (students_of m) point
-  students = ap students_of has.gone ∙ students-without m point i may.well_formed (leaver-here may)
+  students = ap students_of has.gone ∙ students-without m point i may.leaves.well_formed (leaver-here may.leaves)
 
   as-many : length (students_of n) + 1 ≡ length (students_of m)
-  as-many = omega (arith, ap (λ (xs : List ℕ). length xs) students, length-remove (students_of m) point (leaver-low may))
+  as-many = omega (arith, ap (λ (xs : List ℕ). length xs) students, length-remove (students_of m) point (leaver-low may.leaves))
 
   whole-after : AreWhole (cohort n everybody) (remove (logs_in new) point) (labels_of n left.schools.items)
   whole-after =
-      whole-withdrawn (cohort m enters) n point i (logs_in new) (labels_of m anew.schools.items) (labels_of n left.schools.items) may.well_formed (leaver-here may) has.gone (λ j. refl) whole-before
+      whole-withdrawn (cohort m enters) n point i (logs_in new) (labels_of m anew.schools.items) (labels_of n left.schools.items) may.leaves.well_formed (leaver-here may.leaves) has.gone (λ j. refl) whole-before
       (subst (λ p. AreWithout point (labels_of m anew.schools.items) (labels_of p left.schools.items)) (sym has.gone) has.without)
 
   pub left-theirs : students_in fewer ≡ students_of n
   left-theirs =
-      ap students_in has.removed ∙ map-remove (λ (c : Chain). c.student) new point ∙ ap (λ xs. remove xs point) (has.settled.theirs ∙ may.theirs) ∙ sym students
+      ap students_in has.removed ∙ map-remove (λ (c : Chain). c.student) new point ∙ ap (λ xs. remove xs point) (has.settled.theirs ∙ may.leaves.theirs) ∙ sym students
 
   pub left-segmented : IsSegmented n (logs_in fewer)
   left-segmented = subst (IsSegmented n) (sym logs) (run-segments (cohort n everybody) (remove (logs_in new) point) well (λ j. refl) whole-after.run)
@@ -131,7 +160,7 @@ module _ {m n : Market} {i point : ℕ} {marks : List Bool} {papers : Bor Market
     whole = subst (λ segments. AreWhole (cohort n everybody) segments (labels_of n left.schools.items)) (sym logs) whole-after;
     ended = subst (λ segments. AreEnds n segments left.ends) (sym logs)
         (subst (AreEnds n (remove (logs_in new) point)) (sym has.ends)
-        (ends-left (cohort m enters) n point i (logs_in new) anew.ends may.well_formed (leaver-here may) has.gone (λ j. refl) whole-before.run (subst (λ p. AreEnds p (logs_in new) anew.ends) has.same has.settled.ended)));
+        (ends-left (cohort m enters) n point i (logs_in new) anew.ends may.leaves.well_formed (leaver-here may.leaves) has.gone (λ j. refl) whole-before.run (subst (λ p. AreEnds p (logs_in new) anew.ends) has.same has.settled.ended)));
   }
 
   -- nothing came of the student's turn, so that the log is the same
@@ -142,17 +171,17 @@ module _ {m n : Market} {i point : ℕ} {marks : List Bool} {papers : Bor Market
   same-log =
       let last = length (students_of n) in
       ap joined (sym (take_all (suc last) (logs_in new) (omega (arith, count, as-many))))
-      ∙ sym (joined-behind (logs_in new) point last (segment-empty (cohort m enters) point i (logs_in new) (labels_of m anew.schools.items) may.well_formed (leaver-here may) (λ j. refl) whole-before) (omega (arith, leaver-low may, as-many)))
-      ∙ ap joined (take_all last (remove (logs_in new) point) (omega (arith, length-remove (logs_in new) point (omega (arith, leaver-low may, count)), count, as-many)))
+      ∙ sym (joined-behind (logs_in new) point last (segment-empty (cohort m enters) point i (logs_in new) (labels_of m anew.schools.items) may.leaves.well_formed (leaver-here may.leaves) (λ j. refl) whole-before) (omega (arith, leaver-low may.leaves, as-many)))
+      ∙ ap joined (take_all last (remove (logs_in new) point) (omega (arith, length-remove (logs_in new) point (omega (arith, leaver-low may.leaves, count)), count, as-many)))
       ∙ ap joined (sym logs)
 
   same-papers : cut (cohort m enters) (length chains) ≡ n
   same-papers =
       let last = length (students_of n) in
-      let end : length chains ≡ last + 1 = omega (arith, leaver-count may, length-map chains (λ (c : Chain). c.rejections), as-many) in
+      let end : length chains ≡ last + 1 = omega (arith, leaver-count may.leaves, length-map chains (λ (c : Chain). c.rejections), as-many) in
       ap (cut (cohort m enters)) end
-      ∙ sym (cut-behind (cohort m enters) point i last may.well_formed (leaver-here may) (λ j. refl) (omega (arith, leaver-low may, as-many)) (omega (arith, as-many)))
-      ∙ cut-everybody (cohort (without_student m i) everybody) last (WellFormed-without_student m i may.well_formed) (λ j. refl)
+      ∙ sym (cut-behind (cohort m enters) point i last may.leaves.well_formed (leaver-here may.leaves) (λ j. refl) (omega (arith, leaver-low may.leaves, as-many)) (omega (arith, as-many)))
+      ∙ cut-everybody (cohort (without_student m i) everybody) last (WellFormed-without_student m i may.leaves.well_formed) (λ j. refl)
       ∙ ap (λ p. whole.cut p last) (sym has.gone)
       ∙ cut-all n last (omega arith)
 
@@ -163,29 +192,8 @@ module _ {m n : Market} {i point : ℕ} {marks : List Bool} {papers : Bor Market
       ∙ (λ t. next_choice (same-papers t) (same-log t) j)
 
   -- the turns of the region, of which each behind the student's stands one further on
-  left-turns : (behind : List ℕ) → behind ≡ marked_from marks (point + 1) → AreTurnsOf n (is_among (marked_in marks chains)) point (length fewer) (map (λ p. p - 1) behind)
-  left-turns behind these =
-      let test : ℕ → Bool = is_among (marked_in marks chains) in
-      subst (AreTurnsOf n test point (length fewer)) (sym (ap (map (λ p. p - 1)) these ∙ marks-behind marks point point (length marks - (point + 1)) (omega arith) (omega (arith, marks-long, leaver-low may))))
-      (turns-of n test (remove marks point) (length fewer) point (length marks - (point + 1)) (omega (arith, marks-long, leaver-low may, end, as-many)) told)
-    where
-      marks-long : length marks ≡ length (students_of m)
-      marks-long = omega (arith, may.region.one_each, length-students m)
-
-      end : length fewer ≡ length (students_of n)
-      end = omega (arith, ap (λ (xs : List ℕ). length xs) left-theirs, length-map fewer (λ (c : Chain). c.student))
-
-      told : (p : ℕ) → p < length fewer → get_or (remove marks point) p false ≡ is_among (marked_in marks chains) (student_at n p)
-      told p low = elim (cases_lt p point) [
-        | inl before ↦
-            get_or-remove_below marks point false p before (omega (arith, marks-long, leaver-low may))
-            ∙ marks-test m (Withdraw i) marks (is_among (marked_in marks chains)) may.region (leaver-tells may) p (omega (arith, before, leaver-low may))
-            ∙ ap (is_among (marked_in marks chains)) (sym (ap (λ xs. get_or xs p 0) students ∙ get_or-remove_below (students_of m) point 0 p before (leaver-low may)))
-        | inr from ↦
-            get_or-remove_above marks point false p from (omega (arith, marks-long, leaver-low may))
-            ∙ marks-test m (Withdraw i) marks (is_among (marked_in marks chains)) may.region (leaver-tells may) (p + 1) (omega (arith, low, end, as-many))
-            ∙ ap (is_among (marked_in marks chains)) (sym (ap (λ xs. get_or xs p 0) students ∙ get_or-remove_above (students_of m) point 0 p from (leaver-low may)))
-      ]
+  pub left-turns : (behind : List ℕ) → behind ≡ marked_from marks (point + 1) → AreTurnsOf n (is_among (marked_in marks chains)) point (length fewer) (map (λ p. p - 1) behind)
+  left-turns behind these = turns-behind may.leaves n has.gone (length fewer) (omega (arith, ap (λ (xs : List ℕ). length xs) left-theirs, length-map fewer (λ (c : Chain). c.student))) behind these
 
   pub left-within : (behind : List ℕ) → behind ≡ marked_from marks (point + 1) → LieBelow (length fewer) (map (λ p. p - 1) behind)
   left-within behind these = turns-below n (is_among (marked_in marks chains)) point (length fewer) (map (λ p. p - 1) behind) (left-turns behind these)
@@ -212,8 +220,8 @@ module _ {m n : Market} {i point : ℕ} {marks : List Bool} {papers : Bor Market
       let positions : List ℕ = map (λ p. p - 1) behind in
       let many : length log ≡ length fewer = length-map fewer (λ (c : Chain). c.rejections) in
       ap (λ made. made + placed_of n test (matching_of (whole.cut n point) (joined (take point log)))) is
-      ∙ made-inside n test log point positions well (subst (λ p. AreApart p test) (sym has.gone) (region-apart_after m (Withdraw i) test (leaver-tells may))) left-segmented
-      (omega (arith, left-segmented.one_each, as-many, leaver-low may)) (subst (λ end. AreTurnsOf n test point end positions) (sym many) (left-turns behind these))
+      ∙ made-inside n test log point positions well (subst (λ p. AreApart p test) (sym has.gone) (region-apart_after m (Withdraw i) test (leaver-tells may.leaves))) left-segmented
+      (omega (arith, left-segmented.one_each, as-many, leaver-low may.leaves)) (subst (λ end. AreTurnsOf n test point end positions) (sym many) (left-turns behind these))
       ∙ ap (λ a. length (joined (part_of (drop point (students_of n)) test (drop point log))) + placed_of n test a) (sym (λ t j. left-placed j t))
 
   pub left-amended : (behind : List ℕ) (proposals made : ℕ) → behind ≡ marked_from marks (point + 1) → made ≡ made_at n (logs_in fewer) (map (λ p. p - 1) behind)
@@ -223,10 +231,10 @@ module _ {m n : Market} {i point : ℕ} {marks : List Bool} {papers : Bor Market
       record {
         certified = left-certified made;
         accepted = has.gone;
-        stays = subst (λ k. take k (logs_in fewer) ≡ take k (logs_in chains)) may.at (ap (take point) logs ∙ take-remove (logs_in new) point ∙ has.settled.stays);
-        others = keeps-others (standing_of m places chains proposals) (standing_of n final fewer made) (Withdraw i) (marked_in marks chains) (leaver-tells may) has.gone
+        stays = subst (λ k. take k (logs_in fewer) ≡ take k (logs_in chains)) may.leaves.at (ap (take point) logs ∙ take-remove (logs_in new) point ∙ has.settled.stays);
+        others = keeps-others (standing_of m places chains proposals) (standing_of n final fewer made) (Withdraw i) (marked_in marks chains) (leaver-tells may.leaves) has.gone
             (λ j out. ap (λ (pairs : List (ℕ × ℕ)). assigned pairs j) has.given ∙ has.settled.others j out);
-        proposals = counts-region m (Withdraw i) (marked_in marks chains) (standing_of n final fewer made) (leaver-tells may)
-            (subst (λ k. CountsInside test k (standing_of n final fewer made)) may.at (left-counts behind made these is));
+        proposals = counts-region m (Withdraw i) (marked_in marks chains) (standing_of n final fewer made) (leaver-tells may.leaves)
+            (subst (λ k. CountsInside test k (standing_of n final fewer made)) may.leaves.at (left-counts behind made these is));
         unchanged = tt;
       }

@@ -9,6 +9,7 @@ pub mod Resumption
 pub mod Regional
 pub mod StartingWithout
 pub mod EndingWithout
+pub mod Afresh
 pub mod Outcomes
 pub mod Newcomer
 pub mod Counts

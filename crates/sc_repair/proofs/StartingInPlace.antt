@@ -85,7 +85,7 @@ module _ {m : Market} {a : Amendment} {chains : List Chain} {marks : List Bool} 
   apart-after = region-apart_after m a (region_of marks chains) tells
 
   -- everybody stands where they did, and has a segment and a mark
-  stay : students_of (after m a) ≡ students_of m
+  pub stay : students_of (after m a) ≡ students_of m
   stay = students-stay m a given.changes.no_entry given.changes.no_withdrawal
 
   pub students-many : length (after m a).students ≡ length m.students

@@ -40,14 +40,17 @@ use Rattle.sc_repair.proofs.Resumption.{length-students}
 abbrev pub rows_without : Bor Market → Bor (List ℕ) → ℕ → Rows
 rows_without papers before i = record { papers = papers; amended = Some i; before = before; leaves = true }
 
--- a student may leave papers of which the chains are a settled log: the region is marked, and the ledgers are those of the log, of which the
--- student's labels have been struck
-pub record MayLeave (m : Market) (i point : ℕ) (marks : List Bool) (chains : List Chain) (ledgers : Ledgers) (left : List (List Label)) : Type 0 where
+-- a student leaves papers whose chains are their students': the region is marked
+pub record Leaves (m : Market) (i point : ℕ) (marks : List Bool) (chains : List Chain) : Type 0 where
   pub well_formed : WellFormed m
   pub allowed : verdict m (Withdraw i) ≡ None
   pub at : point ≡ position_of m i
   pub region : MarkRegion m (Withdraw i) marks
   pub theirs : students_in chains ≡ students_of m
+
+-- and the ledgers are those of the log, of which the student's labels have been struck
+pub record MayLeave (m : Market) (i point : ℕ) (marks : List Bool) (chains : List Chain) (ledgers : Ledgers) (left : List (List Label)) : Type 0 where
+  pub leaves : Leaves m i point marks chains
   pub labelled : AreLedgersOf m (logs_in chains) ledgers
   pub struck : IsStruck m (Some i) ledgers.schools.items left
 
@@ -76,7 +79,7 @@ same-rows m i j = elim (cases_Bool (i == j)) [
   | inr other ↦ sym (cond-false (i == j) (choices_of m i) (choices_of m j) other)
 ]
 
-module _ {m : Market} {i point : ℕ} {marks : List Bool} {chains : List Chain} {ledgers : Ledgers} {left : List (List Label)} (may : MayLeave m i point marks chains ledgers left) where
+module _ {m : Market} {i point : ℕ} {marks : List Bool} {chains : List Chain} (may : Leaves m i point marks chains) where
   pub leaver-tells : TellsRegion m (Withdraw i) (is_among (marked_in marks chains))
   leaver-tells =
       subst (λ xs. TellsRegion m (Withdraw i) (is_among (marked marks xs))) (sym may.theirs) (marks-tell m (Withdraw i) marks may.well_formed may.allowed refl may.region.region)
@@ -101,17 +104,18 @@ module _ {m : Market} {i point : ℕ} {marks : List Bool} {chains : List Chain} 
       turns-of m (is_among (marked_in marks chains)) marks (length (logs_in chains)) point (length marks - point) (omega (arith, leaver-low, leaver-count, may.region.one_each, length-students m))
       (λ p low. marks-test m (Withdraw i) marks (is_among (marked_in marks chains)) may.region leaver-tells p (omega (arith, low, leaver-count)))
 
+module _ {m : Market} {i point : ℕ} {marks : List Bool} {chains : List Chain} {ledgers : Ledgers} {left : List (List Label)} (may : MayLeave m i point marks chains ledgers left) where
   -- and so the turns can be taken anew
   pub starts-without : (papers : Bor Market) (before : Bor (List ℕ)) (positions : List ℕ) → papers.now ≡ m → before.now ≡ choices_of m (student_at m point) → positions ≡ marked_from marks point
       → StartsAnew m (rows_without papers before i) (is_among (marked_in marks chains)) (inner_of m m (is_among (marked_in marks chains)) None) (logs_in chains) point (labels_of m ledgers.schools.items) (labels_of papers.now left) ledgers.ends positions None
   starts-without papers before positions same theirs these =
       let test : ℕ → Bool = is_among (marked_in marks chains) in
-      let own : before.now ≡ choices_of m i = theirs ∙ ap (choices_of m) (get_or_from_slice_get (students_of m) point i 0 leaver-here) in
+      let own : before.now ≡ choices_of m i = theirs ∙ ap (choices_of m) (get_or_from_slice_get (students_of m) point i 0 (leaver-here may.leaves)) in
       let are : AreLeft (Some i) (labels_of m ledgers.schools.items) (labels_of papers.now left) =
-      struck-left m papers.now (logs_in chains) (Some i) ledgers left may.well_formed (ap schools_of same) may.labelled may.struck in
+      struck-left m papers.now (logs_in chains) (Some i) ledgers left may.leaves.well_formed (ap schools_of same) may.labelled may.struck in
       record {
-        well_formed = may.well_formed;
-        well_new = subst WellFormed (sym same) may.well_formed;
+        well_formed = may.leaves.well_formed;
+        well_new = subst WellFormed (sym same) may.leaves.well_formed;
         students = ap students_of same;
         schools = ap schools_of same;
         choices = λ j. same-rows m i j ∙ (λ t. old_row (sym same t) (Some i) (sym own t) j);
@@ -122,10 +126,10 @@ module _ {m : Market} {i point : ℕ} {marks : List Bool} {chains : List Chain} 
         kept = are.kept;
         only = are.only;
         gone = are.gone;
-        within = omega (arith, leaver-low, leaver-count);
+        within = omega (arith, leaver-low may.leaves, leaver-count may.leaves);
         alike = λ t low. subst (AlikeUpTo t m) (sym same) (alike-students m m t refl refl refl);
-        first = λ t j low among. before-first i t (students_of m) (omega (arith, low, may.at)) j among;
-        region = subst (λ n. IsRegion m n (Some i) test (inner_of m m test None)) (sym same) (region-of (lies-still m (Withdraw i) test leaver-tells) (Some i) (λ j is. ap test (sym (eqb-true i j is)) ∙ (leaver-tells i).1 (amended i refl)));
+        first = λ t j low among. before-first i t (students_of m) (omega (arith, low, may.leaves.at)) j among;
+        region = subst (λ n. IsRegion m n (Some i) test (inner_of m m test None)) (sym same) (region-of (lies-still m (Withdraw i) test (leaver-tells may.leaves)) (Some i) (λ j is. ap test (sym (eqb-true i j is)) ∙ (leaver-tells may.leaves i).1 (amended i refl)));
         inside = tt;
-        turns = subst (λ n. AreTurnsOf n test point (length (logs_in chains)) positions) (sym same) (subst (AreTurnsOf m test point (length (logs_in chains))) (sym these) turns-marked);
+        turns = subst (λ n. AreTurnsOf n test point (length (logs_in chains)) positions) (sym same) (subst (AreTurnsOf m test point (length (logs_in chains))) (sym these) (turns-marked may.leaves));
       }

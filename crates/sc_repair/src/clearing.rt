@@ -66,7 +66,7 @@ impl Clearing {
             ≡ proposals_from_scratch clearing.standing) }
         ensures refused { IfErr result (λ refused. refused.papers ≡ papers) }
     {
-        let Ok(placed) = settle_all::<HeapRoll>(alloc, &papers) else {
+        let Ok(placed) = settle_all::<HeapRoll>(alloc, &papers, None) else {
             return Err(OpenRefused { papers });
         };
         let settlement = Settlement {
@@ -77,6 +77,7 @@ impl Clearing {
             proposals: placed.proposals,
             ledgers: None,
             districts: None,
+            rest: 0,
         };
         Ok(Clearing { settlement, stamps })
     }

@@ -1,5 +1,6 @@
 //! The papers settled: the standing assignment under them, and what it takes to keep it so.
 
+mod afresh;
 mod amend;
 mod change;
 mod newcomer;
@@ -28,6 +29,8 @@ pub(crate) struct Settlement {
     // Where there are some, the districts of the papers, from which the region of an amendment is found: they are
     // kept from amendment to amendment, and made again when they are wanted.
     pub(crate) districts: Option<Districts>,
+    // How many amendments are yet to be settled from scratch, since a sweep by the ledgers was given up.
+    pub(crate) rest: u32,
 }
 
 impl Drop for Settlement {
@@ -40,6 +43,7 @@ impl Drop for Settlement {
             proposals: _,
             ledgers: _,
             districts: _,
+            rest: _,
         } = self;
     }
 }

@@ -1,12 +1,62 @@
 //! Amendments taking effect on the standing assignment.
 
-ghost use Rattle.std.specs.Prelude.{◌≡◌, None};
+ghost use Rattle.std.specs.Prelude.{◌≡◌, None, IfOk};
 ghost use Rattle.sc_papers.specs.Verdict.{verdict};
+ghost use Rattle.sc_papers.specs.declared.amendment.Amendment.TheVariants.{Withdraw};
+ghost use Rattle.sc_repair.specs.Changed.{ChangesInPlace};
 ghost use Rattle.sc_repair.specs.Standing.{IsAmended};
 
 use super::Settlement;
-use sc_papers::Amendment;
-use std::alloc::AllocError;
+use sc_papers::{Amendment, StudentNo};
+use std::alloc::{AllocError, Global};
+
+/// How many amendments are settled from scratch once a sweep was given up, before ledgers are opened again.
+const REST: u32 = 16;
+
+/// An amendment once more. The only error is want of memory.
+fn copied(alloc: Global, amendment: &Amendment) -> Result<Amendment, AllocError>
+    ensures { IfOk result (λ copy. copy ≡ amendment.now) }
+{
+    Ok(match amendment {
+        Amendment::Enter {
+            student,
+            zone,
+            siblings,
+            choices,
+            continuing,
+        } => Amendment::Enter {
+            student: *student,
+            zone: *zone,
+            siblings: siblings.copy(alloc)?,
+            choices: choices.copy(alloc)?,
+            continuing: *continuing,
+        },
+        Amendment::Withdraw { student } => Amendment::Withdraw { student: *student },
+        Amendment::Rerank { student, choices } => Amendment::Rerank {
+            student: *student,
+            choices: choices.copy(alloc)?,
+        },
+        Amendment::Add { school, count } => Amendment::Add {
+            school: *school,
+            count: *count,
+        },
+        Amendment::Close { school, count } => Amendment::Close {
+            school: *school,
+            count: *count,
+        },
+        Amendment::Correct {
+            student,
+            zone,
+            siblings,
+            continuing,
+        } => Amendment::Correct {
+            student: *student,
+            zone: *zone,
+            siblings: siblings.copy(alloc)?,
+            continuing: *continuing,
+        },
+    })
+}
 
 impl Settlement {
     /// Makes an amendment that nothing is said against, and settles its region anew from its rewind point on, as `Clearing::amend_allowed`
@@ -23,5 +73,40 @@ impl Settlement {
             | Amendment::Close { .. }
             | Amendment::Correct { .. } => self.change(amendment),
         }
+    }
+
+    /// Makes an amendment by which nobody enters or withdraws: by the ledgers, and where their sweep is given up, or one was not long
+    /// ago, from scratch. The only error is want of memory, which changes nothing.
+    fn change(&mut self, amendment: Amendment) -> Result<(), AllocError>
+        requires { ChangesInPlace self.old.papers amendment }
+        ensures { IsAmended result self.old amendment self.new }
+    {
+        if self.rest > 0 {
+            self.rest -= 1;
+            return self.change_afresh(amendment);
+        }
+        let again = copied(self.alloc, &amendment)?;
+        if self.change_by_ledgers(again).is_ok() {
+            return Ok(());
+        }
+        self.rest = REST;
+        self.change_afresh(amendment)
+    }
+
+    /// Lets a student withdraw: by the ledgers, and where their sweep is given up, or one was not long ago, from scratch. The only error
+    /// is want of memory, which changes nothing.
+    fn withdraw(&mut self, student: StudentNo) -> Result<(), AllocError>
+        requires { verdict self.old.papers (Withdraw student) ≡ None }
+        ensures { IsAmended result self.old (Withdraw student) self.new }
+    {
+        if self.rest > 0 {
+            self.rest -= 1;
+            return self.withdraw_afresh(student);
+        }
+        if self.withdraw_by_ledgers(student).is_ok() {
+            return Ok(());
+        }
+        self.rest = REST;
+        self.withdraw_afresh(student)
     }
 }

@@ -18,7 +18,7 @@ impl Settlement {
     /// Makes an amendment by which nobody enters or withdraws, in place, and takes the turns of its region anew from its rewind point on,
     /// where they can differ. The only error is want of memory, which changes nothing: where a growth is refused after the papers have
     /// changed, the amendment is taken back, and the ledgers are lost, which the next amendment opens again.
-    pub(super) fn change(&mut self, amendment: Amendment) -> Result<(), AllocError>
+    pub(super) fn change_by_ledgers(&mut self, amendment: Amendment) -> Result<(), AllocError>
         requires { ChangesInPlace self.old.papers amendment }
         ensures { IsAmended result self.old amendment self.new }
     {

@@ -27,16 +27,16 @@ take_next-requires-clause-sweeping c =
 pub loop-position-preserved : goal.loop-position-preserved
 loop-position-preserved c = (
   c.take_next.ensures.one_each,
-  c.in_ok-take_next.ensures.none,
-  c.in_ok-take_next.ensures.flagged,
-  λ p here. elim (c.in_ok-take_next.ensures.here p here) [
+  c.in_ok-asked.ensures.none,
+  c.in_ok-asked.ensures.flagged,
+  λ p here. elim (c.in_ok-asked.ensures.here p here) [
     | inl before ↦ c.loop-position.invariant.3 p before
     | inr now ↦ inr (subst (Contains c.args.positions.now) (sym now) (index-in c.args.positions.now c.loop-position.position-index c.loop-position-test.true))
   ],
   λ m reseated test inner start.
       let (low, sweeping, passes, turns) = underway-at c.args.positions.now c.loop-position.position-index (slice_index c.args.positions.now c.loop-position.position-index) c.loop-position-test.true (index-is c.args.positions.now c.loop-position.position-index c.loop-position-test.true) (c.loop-position.invariant.4 m reseated test inner start) in
-      ((slice_index c.args.positions.now c.loop-position.position-index) + 1, c.in_ok-take_next.ensures.swept m reseated test inner sweeping passes, turns),
-  λ theirs. c.in_ok-take_next.ensures.owners (c.loop-position.invariant.5 theirs),
+      ((slice_index c.args.positions.now c.loop-position.position-index) + 1, c.in_ok-asked.ensures.swept m reseated test inner sweeping passes, turns),
+  λ theirs. c.in_ok-asked.ensures.owners (c.loop-position.invariant.5 theirs),
 )
 
 pub returns-clause-swept : goal.returns-clause-swept

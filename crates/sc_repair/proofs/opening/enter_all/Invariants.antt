@@ -6,5 +6,5 @@ use Rattle.sc_repair.proofs.opening.enter_all.Given as goal
 
 abbrev pub invariant-loop-position : goal.invariant-loop-position
 invariant-loop-position g l =
-    GoesOn l.papers (view_of g.R.Roll.keys g.R.Roll.seats l.round) (students_in l.segments) (logs_in l.segments) l.position
+    GoesOn l.papers l.leaver (view_of g.R.Roll.keys g.R.Roll.seats l.round) (students_in l.segments) (logs_in l.segments) l.position
     × (is_spent l.round ≡ false)

@@ -28,8 +28,8 @@ use Rattle.sc_repair.proofs.Newcomer.{same-standing, unamended}
 use Rattle.sc_repair.proofs.Regional.{settled-anew}
 use Rattle.sc_repair.proofs.SettledInPlace.{from-below, from-few, less-below, settled-counted, settled-many, settled-run, settled-whole}
 use Rattle.sc_repair.proofs.StartingInPlace.{apart-after, region_of, schools_in, starts-in-place, students-many, tells, IsInPlace}
-use Rattle.sc_repair.proofs.settlement.Settlement.change.Goals as goal
-use Rattle.sc_repair.proofs.settlement.Settlement.change.Goals.{After-place_in}
+use Rattle.sc_repair.proofs.settlement.Settlement.change_by_ledgers.Goals as goal
+use Rattle.sc_repair.proofs.settlement.Settlement.change_by_ledgers.Goals.{After-place_in}
 
 -- the amendment is made in place, and the region is marked
 in-place : (c : After-place_in) → IsInPlace c.self.inside.papers c.args.amendment c.self.inside.segments c.in_ok-region.region

@@ -12,8 +12,8 @@ use Rattle.sc_ledgers.specs.Ends.{place_of}
 use Rattle.sc_ledgers.specs.Proposals.{end_of, ends_placed, made_at, made_in}
 use Rattle.sc_ledgers.proofs.TurnEnds.{placed-there}
 use Rattle.sc_ledgers.proofs.TurnsCounted.{made-more, made-within}
-use Rattle.sc_ledgers.proofs.proposals.proposals_at.Goals as goal
-use Rattle.sc_ledgers.proofs.proposals.proposals_at.Goals.{After-made_in-count}
+use Rattle.sc_ledgers.proofs.proposals.count_made.Goals as goal
+use Rattle.sc_ledgers.proofs.proposals.count_made.Goals.{After-made_in-count}
 
 -- the positions less the gap, and one of them
 abbrev closer : List ℕ → ℕ → List ℕ
@@ -32,11 +32,11 @@ made-here c =
     let m = c.args.papers.now in
     let logs = logs_in c.args.segments.now in
     let t : ℕ = c.saturating_sub-at.result in
-    let rest = c.segment.result.now in
-    let here : get_or logs t [] ≡ rest = get_or_from_slice_get logs t rest [] c.segment.ensures in
-    let low : t < length logs = slice_get_within logs t rest c.segment.ensures in
-    let placed : is_some c.get.result ≡ ends_placed m rest =
-    ap is_some (c.get.ensures ∙ c.requires.ends.there t low ∙ ap (λ l. place_of m (end_of m (student_at m t) l)) here)
+    let rest = c.segment-segment.result.now in
+    let here : get_or logs t [] ≡ rest = get_or_from_slice_get logs t rest [] c.segment-segment.ensures in
+    let low : t < length logs = slice_get_within logs t rest c.segment-segment.ensures in
+    let placed : is_some c.end_at.result ≡ ends_placed m rest =
+    ap is_some c.end_at.ensures
     ∙ placed-there m c.students_len.ensures.well_formed (student_at m t) rest (hand-student m t (turn-low m logs t c.requires.run low)) in
     c.made_in-count.ensures
     ∙ ap (λ b. length rest + (if b then 1 else 0)) placed
@@ -47,8 +47,8 @@ pub loop-position-init : goal.loop-position-init
 unfolding made_at
 loop-position-init c = refl
 
-pub segment-requires : goal.segment-requires
-segment-requires c =
+pub segment-segment-requires : goal.segment-segment-requires
+segment-segment-requires c =
     let k = c.loop-position.position-index in
     omega (
       arith,

@@ -19,23 +19,25 @@ use Rattle.sc_repair.specs.Changed.{standing_of}
 use Rattle.sc_repair.proofs.Resumption.{length-students}
 use Rattle.sc_repair.proofs.EndingWithout.{left-amended, left-certified, left-few, left-ledgers, left-segmented, left-theirs, left-within, HasLeft}
 use Rattle.sc_repair.proofs.StartingWithout.{starts-without, leaver-low, rows_without, MayLeave}
-use Rattle.sc_repair.proofs.settlement.Settlement.withdraw.Goals as goal
-use Rattle.sc_repair.proofs.settlement.Settlement.withdraw.Goals.{After-leave-in-Ok, After-strike, In-Ok}
+use Rattle.sc_repair.proofs.settlement.Settlement.withdraw_by_ledgers.Goals as goal
+use Rattle.sc_repair.proofs.settlement.Settlement.withdraw_by_ledgers.Goals.{After-leave-in-Ok, After-strike, In-Ok}
 
 -- the student may leave
 may : (c : After-strike) → MayLeave c.self.inside.papers c.args.student c.point_in-point.result c.in_ok-region.region c.self.inside.segments c.in_ok-ledgers.ledgers c.strike.new.ledgers.items
 may c = record {
-  well_formed = c.self.invariant.certified.well_formed;
-  allowed = ap (λ (s : Standing). verdict s.papers (Withdraw c.args.student)) c.self.view_is ∙ c.requires;
-  at = c.point_in-point.ensures ∙ ap (λ p. rewind_point p (Withdraw c.args.student)) c.deref-3.ensures;
-  region = subst (λ p. MarkRegion p (Withdraw c.args.student) c.in_ok-region.region) c.deref-2.ensures c.in_ok-region.ensures.region;
-  theirs = c.self.invariant.theirs;
+  leaves = record {
+    well_formed = c.self.invariant.certified.well_formed;
+    allowed = ap (λ (s : Standing). verdict s.papers (Withdraw c.args.student)) c.self.view_is ∙ c.requires;
+    at = c.point_in-point.ensures ∙ ap (λ p. rewind_point p (Withdraw c.args.student)) c.deref-3.ensures;
+    region = subst (λ p. MarkRegion p (Withdraw c.args.student) c.in_ok-region.region) c.deref-2.ensures c.in_ok-region.ensures.region;
+    theirs = c.self.invariant.theirs;
+  };
   labelled = subst (λ p. AreLedgersOf p (logs_in c.self.inside.segments) c.in_ok-ledgers.ledgers) c.deref.ensures c.in_ok-ledgers.ensures.taken;
   struck = subst (λ p. IsStruck p (Some c.args.student) c.in_ok-ledgers.ledgers.schools.items c.strike.new.ledgers.items) c.deref-5.ensures c.strike.ensures.struck;
 }
 
 pub choices_at-requires : goal.choices_at-requires
-choices_at-requires c = omega (arith, leaver-low (may (goal.at.choices_at-requires c).After-strike), length-students c.self.inside.papers)
+choices_at-requires c = omega (arith, leaver-low (may (goal.at.choices_at-requires c).After-strike).leaves, length-students c.self.inside.papers)
 
 pub resettle-settled-requires-clause-start : goal.resettle-settled-requires-clause-start
 resettle-settled-requires-clause-start c =
@@ -81,12 +83,12 @@ remove-requires c =
     let before = goal.at.remove-requires c in
     let leaver = may before.After-strike in
     let new = c.resettle-settled.new.segments in
-    omega (arith, leaver-low leaver, ap (λ (xs : List ℕ). length xs) ((settled before.In-Ok leaver).theirs ∙ c.self.invariant.theirs), length-map new (λ (chain : Chain). chain.student))
+    omega (arith, leaver-low leaver.leaves, ap (λ (xs : List ℕ). length xs) ((settled before.In-Ok leaver).theirs ∙ c.self.invariant.theirs), length-map new (λ (chain : Chain). chain.student))
 
 pub overflow_add-point : goal.overflow_add-point
 overflow_add-point c =
     let leaver = may (goal.at.overflow_add-point c).After-strike in
-    omega (arith, leaver-low leaver, length-students c.self.inside.papers, c.students_len.ensures.count, ap (λ (p : Market). length p.students) c.deref-4.ensures, c.if-prove.false)
+    omega (arith, leaver-low leaver.leaves, length-students c.self.inside.papers, c.students_len.ensures.count, ap (λ (p : Market). length p.students) c.deref-4.ensures, c.if-prove.false)
 
 pub proposals_at-self-inside-requires-clause-within : goal.proposals_at-self-inside-requires-clause-within
 proposals_at-self-inside-requires-clause-within c =
@@ -119,12 +121,12 @@ leave-requires-in-Ok-clause-within c =
     let leaver = may before.After-strike in
     let anew = settled before.In-Ok leaver in
     let new = c.resettle-settled.new.segments in
-    omega (arith, leaver-low leaver, anew.ended.one_each, length-map new (λ (chain : Chain). chain.rejections), ap (λ (xs : List ℕ). length xs) (anew.theirs ∙ c.self.invariant.theirs), length-map new (λ (chain : Chain). chain.student))
+    omega (arith, leaver-low leaver.leaves, anew.ended.one_each, length-map new (λ (chain : Chain). chain.rejections), ap (λ (xs : List ℕ). length xs) (anew.theirs ∙ c.self.invariant.theirs), length-map new (λ (chain : Chain). chain.student))
 
 pub leave-requires-in-Ok-clause-few : goal.leave-requires-in-Ok-clause-few
 leave-requires-in-Ok-clause-few c =
     let leaver = may (goal.at.leave-requires-in-Ok-clause-few c).After-strike in
-    omega (arith, leaver-low leaver, length-students c.self.inside.papers, c.students_len.ensures.count, ap (λ (p : Market). length p.students) c.deref-4.ensures, c.if-prove.false)
+    omega (arith, leaver-low leaver.leaves, length-students c.self.inside.papers, c.students_len.ensures.count, ap (λ (p : Market). length p.students) c.deref-4.ensures, c.if-prove.false)
 
 pub invariant_of-self-in-Ok : goal.invariant_of-self-in-Ok
 invariant_of-self-in-Ok c =
