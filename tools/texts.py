@@ -1,6 +1,7 @@
 """What page.py and letters.py both need: the program's texts, the tables of names, and the sentences of a language."""
 import csv
 import functools
+import io
 import json
 import pathlib
 from typing import NamedTuple
@@ -175,6 +176,24 @@ def read_names(path, header):
         except (ValueError, csv.Error):
             raise WrongText(f"{path}: line {rows.line_num} is not a number, not yet named, and its name") from None
     return names
+
+
+# A cell that begins with one of these may be taken for a formula by a spreadsheet, as may one with blanks before a sign.
+SIGNS = ("=", "+", "-", "@", "\uff1d", "\uff0b", "\uff0d", "\uff20")
+BREAKS = ("\t", "\r", "\n")
+
+
+def cell(field):
+    """A field as it may stand in a spreadsheet: with an apostrophe in front where it would be taken for a formula."""
+    text = str(field)
+    return f"'{text}" if text.startswith(BREAKS) or text.lstrip().startswith(SIGNS) else text
+
+
+def written_table(rows):
+    """Rows as a table for spreadsheets, which run none of its cells: comma-separated, with a byte order mark, as they like it."""
+    out = io.StringIO()
+    csv.writer(out).writerows(map(cell, row) for row in rows)
+    return "\ufeff" + out.getvalue()
 
 
 class Language:
