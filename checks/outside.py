@@ -1,6 +1,6 @@
 #!/usr/bin/env python3
 """Tries the built program from outside: refused memory, full discs, broken streams, odd inputs and words, and kills; and
-the tools, on its texts, with odd names.
+the tools, on its texts, with odd names, ranks and words.
 
     outside.py [--program PATH] [--kills N]
 
@@ -284,6 +284,21 @@ def formulas(trials):
     print("names that spreadsheets run: tried")
 
 
+def wrong_texts(trials):
+    """Ranks that no summary has, and an option twice."""
+    (trials.folder / "report").write_bytes(trials.run(trials.calls["match"]).stdout)
+    summary = trials.run(["summary", *trials.calls["match"][1:]]).stdout
+    for rank in (b"0", b"21", b"1000000", b"-1", b"x"):
+        (trials.folder / "summary").write_bytes(re.sub(rb"(?m)^1,", rank + b",", summary, count=1))
+        done = tool(trials, "page.py", ["--report", "report", "--summary", "summary"])
+        line = f"page.py: the summary has the rank {rank.decode()}, and from 1 to 20 are expected"
+        trials.ended(f"a page with rank {rank}", done, 2, line, b"")
+    done = tool(trials, "audit.py", [*trials.calls["audit"][1:], "--log", "missing"])
+    said = done.stderr.decode().splitlines()[-1:]
+    trials.check("audit.py with a log twice", done.returncode == 2 and said == ["audit.py: error: the option --log is given twice"], said)
+    print("texts and words that the tools refuse: tried")
+
+
 def long_script(rng, students, schools):
     """Many records, each with the stamp that stands by then; those of students who are gone are refused."""
     stamps, gone, accepted = {}, set(), 0
@@ -341,6 +356,7 @@ def main():
         journals(trials)
         words(trials)
         formulas(trials)
+        wrong_texts(trials)
         address_spaces(trials)
         kills(trials, given.kills)
         refused_growths(trials, folder)

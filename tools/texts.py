@@ -12,6 +12,7 @@ EXPLAIN_HEADER = "student,rank,school,class,draw,lottery_rank,cutoff,cutoff_draw
 
 CLASSES = 5
 DRAW_DIGITS = 16
+MOST_LISTED = 20
 
 LANGUAGES = pathlib.Path(__file__).resolve().parent / "letters"
 
@@ -106,6 +107,11 @@ def class_of(field):
     return group
 
 
+def rank_of(field):
+    """The rank of a choice, from 1 to 20; nothing where the field is none."""
+    return int(field) if field.isdecimal() and 1 <= int(field) <= MOST_LISTED else None
+
+
 def outcome_of(group, draw, number, cutoff):
     """What came of a choice by the school's cutoff, where nothing better was given: `given`, or the reason why not."""
     if cutoff.group in ("free", "closed"):
@@ -147,7 +153,7 @@ def add_choice(line, students, cutoffs, turns):
             raise ValueError(line)
         students.append(Student(number, draw, turn, []))
     student, choice = students[-1] if students else None, Choice(school, class_of(group), outcome)
-    if student is None or (student.number, student.draw, student.turn, len(student.choices) + 1) != (number, draw, turn, int(rank)) or len(draw) != DRAW_DIGITS:
+    if student is None or (student.number, student.draw, student.turn, len(student.choices) + 1) != (number, draw, turn, rank_of(rank)) or len(draw) != DRAW_DIGITS:
         raise ValueError(line)
     settled = student.choices and student.choices[-1].outcome in ("given", "later")
     expected = "later" if settled else outcome_of(choice.group, draw, number, cutoff)
