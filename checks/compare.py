@@ -121,7 +121,8 @@ def changed(rng, text):
         fields[rng.randrange(len(fields))] = rng.choice([b"", b"x", b"0", b"99999", b"100000", b"10000", b"10001", b"1000000000", b"1 1", b"7  8"])
         lines[at] = b",".join(fields)
     elif kind == 8:
-        return reference.MARK * rng.choice([1, 2]) + text
+        # A byte order mark at the front, or behind blanks or lines without a byte, where it is none that is dropped.
+        return rng.choice([b"", b"", b"\n", b" ", b"\t "]) + reference.MARK * rng.choice([1, 2]) + text
     elif kind == 11:
         # As spreadsheets write it elsewhere.
         lines = [line.replace(b",", rng.choice([b";", b"\t"])) for line in lines]

@@ -1,5 +1,6 @@
 #!/usr/bin/env python3
-"""Tries the built program from outside: refused memory, full discs, broken streams, odd inputs and words, and kills.
+"""Tries the built program from outside: refused memory, full discs, broken streams, odd inputs and words, and kills; and
+the tools, on its texts, with odd names, ranks and words.
 
     outside.py [--program PATH] [--kills N]
 
@@ -9,6 +10,7 @@ itself, or by a signal that was sent to it; and a status other than 0 has its li
 group of trials, and ends with status 1 where one failed.
 """
 import argparse
+import csv
 import os
 import pathlib
 import random
@@ -23,6 +25,7 @@ import threading
 import time
 
 HERE = pathlib.Path(__file__).resolve().parent
+TOOLS = HERE.parent / "tools"
 BUILT = HERE.parent / "crates/clearinghouse/out/clearinghouse"
 LIMIT = 67_108_864
 SEED = "0" * 64
@@ -259,6 +262,43 @@ def words(trials):
     print("words that are not UTF-8: tried")
 
 
+def tool(trials, name, words):
+    return subprocess.run([sys.executable, TOOLS / name, *words], cwd=trials.folder, capture_output=True, timeout=120)
+
+
+def formulas(trials):
+    """Names that a spreadsheet takes for formulas: each cell of them has an apostrophe in front, and no other cell has one."""
+    (trials.folder / "explained").write_bytes(trials.run(["explain", *trials.calls["match"][1:]]).stdout)
+    for name in ("=1+1", "+1", "-1", "@A1", "\t=1+1", "\r=1+1", "\uff1d1+1"):
+        (trials.folder / "names").write_bytes(f'number,name\n10,"{name}"\n20,Mill Lane\n'.encode())
+        (trials.folder / "students").write_bytes(f'student,name\n1,"{name}"\n2,Ann\n'.encode())
+        for language in ("en", "es", "fr"):
+            words = ["--explain", "explained", "--names", "names", "--students", "students", "--language", language]
+            done = tool(trials, "letters.py", words)
+            trials.check(f"letters to {name!r}", done.returncode == 0, done.stderr)
+            cells = [cell for row in csv.reader(done.stdout.decode("utf-8-sig").splitlines(keepends=True)) for cell in row]
+            run = [cell for cell in cells if cell.startswith(("=", "+", "-", "@", "\t", "\r", "\n", "\uff1d"))]
+            trials.check(f"letters to {name!r}", not run, f"cells that a spreadsheet runs: {run}")
+            marked = [cell for cell in cells if cell.startswith("'") and not cell[1:].startswith(name.strip())]
+            trials.check(f"letters to {name!r}", not marked and "Ann" in cells, f"cells with an apostrophe: {marked}")
+    print("names that spreadsheets run: tried")
+
+
+def wrong_texts(trials):
+    """Ranks that no summary has, and an option twice."""
+    (trials.folder / "report").write_bytes(trials.run(trials.calls["match"]).stdout)
+    summary = trials.run(["summary", *trials.calls["match"][1:]]).stdout
+    for rank in (b"0", b"21", b"1000000", b"-1", b"x"):
+        (trials.folder / "summary").write_bytes(re.sub(rb"(?m)^1,", rank + b",", summary, count=1))
+        done = tool(trials, "page.py", ["--report", "report", "--summary", "summary"])
+        line = f"page.py: the summary has the rank {rank.decode()}, and from 1 to 20 are expected"
+        trials.ended(f"a page with rank {rank}", done, 2, line, b"")
+    done = tool(trials, "audit.py", [*trials.calls["audit"][1:], "--log", "missing"])
+    said = done.stderr.decode().splitlines()[-1:]
+    trials.check("audit.py with a log twice", done.returncode == 2 and said == ["audit.py: error: the option --log is given twice"], said)
+    print("texts and words that the tools refuse: tried")
+
+
 def long_script(rng, students, schools):
     """Many records, each with the stamp that stands by then; those of students who are gone are refused."""
     stamps, gone, accepted = {}, set(), 0
@@ -315,6 +355,8 @@ def main():
         inputs(trials)
         journals(trials)
         words(trials)
+        formulas(trials)
+        wrong_texts(trials)
         address_spaces(trials)
         kills(trials, given.kills)
         refused_growths(trials, folder)

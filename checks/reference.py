@@ -703,7 +703,7 @@ def wanted(kind, cause):
 
 def header_hint(line):
     if line.startswith(MARK):
-        return "; a second byte order mark stands here"
+        return "; a byte order mark stands here"
     if b"\0" in line:
         return "; this is UTF-16, and UTF-8 is expected"
     if b";" in line:
@@ -747,6 +747,7 @@ def subject_of(columns, fields, first):
 def about(source, cause, line):
     """What is wrong with a line: whom it is of, what stands there, and what is expected."""
     if cause == "Header":
+        line = line.strip(b" \t")
         return f" {in_print(line)}: {HEADERS[source]}{header_hint(line)}"
     fields = [field.strip(b" \t") for field in line.split(b",")]
     first = 2 if source == "script" else 0

@@ -368,11 +368,20 @@ def verdict(papers, entries, report):
     return said
 
 
+class Once(argparse.Action):
+    """An option that is given at most once."""
+
+    def __call__(self, words, given, value, option=None):
+        if getattr(given, self.dest) is not None:
+            words.error(f"the option {option} is given twice")
+        setattr(given, self.dest, value)
+
+
 def main():
     words = argparse.ArgumentParser(description=__doc__, formatter_class=argparse.RawDescriptionHelpFormatter)
     for name in ("seed", "schools", "roster", "lists", "log"):
-        words.add_argument(f"--{name}", required=True)
-    words.add_argument("--report")
+        words.add_argument(f"--{name}", required=True, action=Once)
+    words.add_argument("--report", action=Once)
     given = words.parse_args()
     if not re.fullmatch("[0-9a-fA-F]{64}", given.seed):
         words.error("the seed is 64 hexadecimal digits")

@@ -11,7 +11,8 @@ numbers, and the names can be joined to the table by its first column.
 The table has a row for each student: the student, the school's number and name, which choice it was, the student's
 place in the lottery and of how many, and then whole sentences: what the student has, how they came in the lottery,
 and a reason for each choice that they would rather have. It is in UTF-8 with a byte order mark, as spreadsheets like
-it. The letters have a page for each student. With --part 2/20 only the second of twenty equal parts of the students is
+it, and a cell that they would take for a formula, as that of a student named =1+1, has an apostrophe in front. The
+letters have a page for each student. With --part 2/20 only the second of twenty equal parts of the students is
 written, in the order of their numbers: a browser prints some thousands of letters at once, and not eighty thousand.
 
 The sentences stand in tools/letters, a file for each language, and an office may change them there.
@@ -19,9 +20,7 @@ The sentences stand in tools/letters, a file for each language, and an office ma
 The status is 0 where all was written, and 2 where the words or a text are wrong.
 """
 import argparse
-import csv
 import html
-import io
 import sys
 
 import texts
@@ -51,15 +50,13 @@ def table(letters, names, language):
     columns = language["columns"]
     longest = max((len(letter.reasons) for letter in letters), default=0)
     keys = ["student"] + ["name"] * (names is not None) + ["school", "school_name", "rank", "place", "students", "result", "lottery"]
-    out = io.StringIO()
-    rows = csv.writer(out)
-    rows.writerow([columns[key] for key in keys] + [columns["reason"].format(rank=rank) for rank in range(1, longest + 1)])
+    rows = [[columns[key] for key in keys] + [columns["reason"].format(rank=rank) for rank in range(1, longest + 1)]]
     for letter in letters:
         school = ["", ""] if letter.school is None else [letter.school, language.school(letter.school)]
         name = [] if names is None else [names.get(letter.number, "")]
         fields = [letter.number, *name, *school, letter.rank or "", letter.place, letter.students, letter.result, letter.lottery]
-        rows.writerow(fields + letter.reasons + [""] * (longest - len(letter.reasons)))
-    return "\ufeff" + out.getvalue()
+        rows.append(fields + letter.reasons + [""] * (longest - len(letter.reasons)))
+    return texts.written_table(rows)
 
 
 STYLE = """

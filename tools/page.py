@@ -38,7 +38,8 @@ class Outcome:
 
     def __init__(self, report, summary, choices):
         places, cutoffs, _ = report
-        self.ranks, schools = summary
+        ranks, schools = summary
+        self.ranks = [(rank_told(rank), int(count)) for rank, count in ranks]
         self.places = {int(student): None if school == "-" else int(school) for student, school in places}
         self.cutoffs = {int(row[0]): texts.cutoff_of(*row[3:]) for row in cutoffs}
         self.schools = [[int(field) for field in row] for row in schools]
@@ -49,7 +50,7 @@ class Outcome:
 
     def agrees(self, cutoffs):
         """Whether the texts can be of the same papers."""
-        students = sum(int(count) for _, count in self.ranks)
+        students = sum(count for _, count in self.ranks)
         seats = [[int(field) for field in row[:3]] for row in cutoffs]
         if students != len(self.places) or seats != [row[:3] for row in self.schools]:
             return False
@@ -62,6 +63,14 @@ class Outcome:
     def turn(self, school):
         """The place in the lottery of the student who has a school's last seat, if it is known."""
         return self.turns.get(self.cutoffs[school].student)
+
+
+def rank_told(field):
+    """The rank that a line of the summary is of; nothing where it is of those who have no place."""
+    rank = texts.rank_of(field)
+    if rank is None and field != "-":
+        raise texts.WrongText(f"the summary has the rank {field}, and from 1 to {texts.MOST_LISTED} are expected")
+    return rank
 
 
 def placed(student):
@@ -77,10 +86,9 @@ def share(part, whole):
 
 def figures(ranks, language):
     """The figures, and a bar for each rank."""
-    counts = [(rank, int(count)) for rank, count in ranks]
-    students = sum(count for _, count in counts)
-    with_place = sum(count for rank, count in counts if rank != "-")
-    first = sum(count for rank, count in counts if rank == "1")
+    students = sum(count for _, count in ranks)
+    with_place = sum(count for rank, count in ranks if rank)
+    first = sum(count for rank, count in ranks if rank == 1)
     tiles = [
         (f"{students:,}", "students"),
         (f"{share(with_place, students):.1f}%", "have a place at a school on their list"),
@@ -90,8 +98,8 @@ def figures(ranks, language):
     out = ['<div class="tiles">']
     out += [f'<div class="tile"><b>{value}</b><span>{label}</span></div>' for value, label in tiles]
     out.append('</div>\n<table class="ranks"><thead><tr><th scope="col">Choice</th><th scope="col">Students</th><th scope="col">Share</th><td></td></tr></thead><tbody>')
-    for rank, count in counts:
-        label, kind = ("no place", "none") if rank == "-" else (language.rank(int(rank)), "some")
+    for rank, count in ranks:
+        label, kind = (language.rank(rank), "some") if rank else ("no place", "none")
         percent = share(count, students)
         bar = f'<span class="bar"><span class="{kind}" style="width:{percent:.1f}%"></span></span>'
         out.append(f'<tr><th scope="row">{label}</th><td>{count:,}</td><td>{percent:.1f}%</td><td>{bar}</td></tr>')

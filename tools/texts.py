@@ -1,6 +1,7 @@
 """What page.py and letters.py both need: the program's texts, the tables of names, and the sentences of a language."""
 import csv
 import functools
+import io
 import json
 import pathlib
 from typing import NamedTuple
@@ -11,6 +12,7 @@ EXPLAIN_HEADER = "student,rank,school,class,draw,lottery_rank,cutoff,cutoff_draw
 
 CLASSES = 5
 DRAW_DIGITS = 16
+MOST_LISTED = 20
 
 LANGUAGES = pathlib.Path(__file__).resolve().parent / "letters"
 
@@ -105,6 +107,11 @@ def class_of(field):
     return group
 
 
+def rank_of(field):
+    """The rank of a choice, from 1 to 20; nothing where the field is none."""
+    return int(field) if field.isdecimal() and 1 <= int(field) <= MOST_LISTED else None
+
+
 def outcome_of(group, draw, number, cutoff):
     """What came of a choice by the school's cutoff, where nothing better was given: `given`, or the reason why not."""
     if cutoff.group in ("free", "closed"):
@@ -146,7 +153,7 @@ def add_choice(line, students, cutoffs, turns):
             raise ValueError(line)
         students.append(Student(number, draw, turn, []))
     student, choice = students[-1] if students else None, Choice(school, class_of(group), outcome)
-    if student is None or (student.number, student.draw, student.turn, len(student.choices) + 1) != (number, draw, turn, int(rank)) or len(draw) != DRAW_DIGITS:
+    if student is None or (student.number, student.draw, student.turn, len(student.choices) + 1) != (number, draw, turn, rank_of(rank)) or len(draw) != DRAW_DIGITS:
         raise ValueError(line)
     settled = student.choices and student.choices[-1].outcome in ("given", "later")
     expected = "later" if settled else outcome_of(choice.group, draw, number, cutoff)
@@ -175,6 +182,24 @@ def read_names(path, header):
         except (ValueError, csv.Error):
             raise WrongText(f"{path}: line {rows.line_num} is not a number, not yet named, and its name") from None
     return names
+
+
+# A cell that begins with one of these may be taken for a formula by a spreadsheet, as may one with blanks before a sign.
+SIGNS = ("=", "+", "-", "@", "\uff1d", "\uff0b", "\uff0d", "\uff20")
+BREAKS = ("\t", "\r", "\n")
+
+
+def cell(field):
+    """A field as it may stand in a spreadsheet: with an apostrophe in front where it would be taken for a formula."""
+    text = str(field)
+    return f"'{text}" if text.startswith(BREAKS) or text.lstrip().startswith(SIGNS) else text
+
+
+def written_table(rows):
+    """Rows as a table for spreadsheets, which run none of its cells: comma-separated, with a byte order mark, as they like it."""
+    out = io.StringIO()
+    csv.writer(out).writerows(map(cell, row) for row in rows)
+    return "\ufeff" + out.getvalue()
 
 
 class Language:

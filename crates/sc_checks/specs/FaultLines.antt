@@ -4,11 +4,13 @@ use Rattle.std.specs.Fmt.{decimal}
 use Rattle.sc_decimal.specs.Number.{read_number}
 use Rattle.sc_papers.specs.declared.amendment.Refusal.{Refusal}
 use Rattle.sc_papers.specs.declared.amendment.Refusal.TheVariants.{ListTooLong, UnknownSchool, SchoolTwice}
+use Rattle.sc_intake.specs.Blanks.{trimmed}
 use Rattle.sc_intake.specs.Fault.{◌>>=◌}
 use Rattle.sc_intake.specs.FaultText.{cause_text, fault_text}
 use Rattle.sc_intake.specs.Field.{as_school, as_student, number_of}
 use Rattle.sc_intake.specs.File.{text_at}
 use Rattle.sc_intake.specs.Plain.{fields_from}
+use Rattle.sc_intake.specs.declared.blanks.Blanks.TheVariants.{InLine}
 use Rattle.sc_intake.specs.declared.fault.Cause.{Cause}
 use Rattle.sc_intake.specs.declared.fault.Cause.TheVariants.{TooLong, Header, Fields, Number, Range, Twice, NoList, NotInRoster, Refused, OutOfMemory}
 use Rattle.sc_intake.specs.declared.fault.IntakeFault.{IntakeFault}
@@ -90,7 +92,7 @@ subject_text AddOrClose fields = school_text (text_at fields 2)
 subject_text Correct fields = student_text (text_at fields 2)
 subject_text Unknown fields = []
 
--- a row that is no header
+-- a row that is no header, without the blanks around it
 abbrev pub about_header : Source → List ℕ → List ℕ
 about_header source line = codes " " ++ quoted line ++ codes ": " ++ header_words source ++ hint_words line
 
@@ -146,7 +148,7 @@ about_refused r form fields = subject_text form fields ++ refused_text r fields 
 
 -- what is wrong with a line
 abbrev pub about_line : Source → Cause → List ℕ → List ℕ
-about_line source Header line = about_header source line
+about_line source Header line = about_header source (trimmed InLine line)
 about_line source Fields line = about_count (form_of source (fields_from [] line)) (fields_from [] line)
 about_line source Number line = about_fields source Number (form_of source (fields_from [] line)) (fields_from [] line)
 about_line source Range line = about_fields source Range (form_of source (fields_from [] line)) (fields_from [] line)

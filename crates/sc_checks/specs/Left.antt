@@ -1,9 +1,11 @@
 -- The faults that are left to be told, by how they are kept. Other contracts see the list of them alone.
-use Rattle.std.specs.Prelude.{◌≡◌, ℕ, List, ◌++◌, drop, Option, None, Some}
+use Rattle.std.specs.Prelude.{◌≡◌, ℕ, List, ◌++◌, drop}
 use Rattle.sc_intake.specs.Checking.{known_schools, IsJudged}
 use Rattle.sc_intake.specs.declared.fault.IntakeFault.{IntakeFault}
 use Rattle.sc_checks.specs.Checks.{faults_of_good}
 use Rattle.sc_checks.specs.declared.checking.Files.{Files}
+use Rattle.sc_checks.specs.declared.checking.OfFiles.{OfFiles}
+use Rattle.sc_checks.specs.declared.checking.OfFiles.TheVariants.{Alone, Together}
 use Rattle.sc_checks.specs.declared.checking.Found.{Found}
 
 -- the faults of each file alone that are left
@@ -26,11 +28,15 @@ pub record AreSameGood (old new : Files) : Type 0 where
 abbrev pub left_found : Found → List IntakeFault
 left_found found = drop found.told found.faults.items
 
--- the faults of what the good rows say together that are left: all of them, until they are looked for
-abbrev pub left_together : List ℕ → List ℕ → Files → Option Found → List IntakeFault
-left_together seed schools files None = faults_of_good seed (known_schools schools) files.schools.good files.roster.good files.lists.good
-left_together seed schools files (Some found) = left_found found
+-- the faults of what the good rows say together
+abbrev pub said_together : List ℕ → List ℕ → Files → List IntakeFault
+said_together seed schools files = faults_of_good seed (known_schools schools) files.schools.good files.roster.good files.lists.good
+
+-- the faults of the files that are left: those of each alone, and all of what their rows say together until these are found
+abbrev pub left_of : List ℕ → List ℕ → OfFiles → List IntakeFault
+left_of seed schools (Alone files) = left_alone files ++ said_together seed schools files
+left_of seed schools (Together found) = left_found found
 
 -- all that are left
-abbrev pub left_in : List ℕ → List ℕ → Files → Option Found → List IntakeFault → List IntakeFault
-left_in seed schools files together script = left_alone files ++ left_together seed schools files together ++ script
+abbrev pub left_in : List ℕ → List ℕ → OfFiles → List IntakeFault → List IntakeFault
+left_in seed schools files script = left_of seed schools files ++ script

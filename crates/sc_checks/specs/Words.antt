@@ -29,10 +29,10 @@ has_byte byte text = list_any (λ c. c == byte) text
 abbrev pub has_capital : List ℕ → Bool
 has_capital text = list_any (λ c. nat_le 65 c && nat_le c 90) text
 
--- why a line may be no header, where it can be seen
+-- why a line, without the blanks around it, may be no header, where it can be seen
 abbrev pub hint_words : List ℕ → List ℕ
 hint_words line =
-    if is_marked line then codes "; a second byte order mark stands here"
+    if is_marked line then codes "; a byte order mark stands here"
     else if has_byte 0 line then codes "; this is UTF-16, and UTF-8 is expected"
     else if has_byte 59 line then codes "; the fields stand between semicolons"
     else if has_byte 9 line && not (has_byte 44 line) then codes "; the fields stand between tabs"

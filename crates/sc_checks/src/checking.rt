@@ -2,7 +2,7 @@
 ghost use Rattle.std.specs.Prelude.{◌≡◌, ◌∷◌, [], ℕ, List, IfNone, IfOk, MatchOption, OnOk};
 ghost use Rattle.sc_intake.specs.Checking.{known_schools};
 ghost use Rattle.sc_checks.specs.Checks.{every_fault, faults_of_good};
-ghost use Rattle.sc_checks.specs.Left.{left_alone, left_found, left_together, AreJudged, AreSameGood};
+ghost use Rattle.sc_checks.specs.Left.{left_alone, left_found, left_of, AreJudged, AreSameGood};
 
 use sc_intake::{
     IntakeFault, ListRow, RosterRow, SchoolRow, ScriptFaults, Sheet, judge_lists, judge_papers,
@@ -36,17 +36,31 @@ struct Found {
     told: usize,
 }
 
+/// The files while each of them alone is judged; and then the faults of what their rows say together, for which the rows
+/// are of no more account and are let go.
+enum OfFiles<'a> {
+    Alone { files: Files<'a> },
+    Together { found: Found },
+}
+
+impl Drop for OfFiles<'_> {
+    fn drop(self) {
+        match self {
+            OfFiles::Alone { files: _ } => {}
+            OfFiles::Together { found: _ } => {}
+        }
+    }
+}
+
 /// The faults of the texts of three files and of a script that are left to be told. They are told one after the other,
-/// and found as they are told. What is kept are the rows that have no fault, and of the faults those alone that are of
-/// what the rows say together, of which there are at most 400,000.
+/// and found as they are told. What is kept are the rows that have no fault, as long as each file alone is judged, and then
+/// the faults of what these rows say together, of which there are at most 400,000.
 pub struct Faults<'a> {
     alloc: Global,
     seed: Seed,
     // It is read again for the schools that rows with a fault name.
     schools: &'a [u8],
-    files: Files<'a>,
-    // Found once each file alone was judged.
-    together: Option<Found>,
+    files: OfFiles<'a>,
     script: ScriptFaults<'a>,
 }
 
@@ -57,7 +71,6 @@ impl Drop for Faults<'_> {
             seed: _,
             schools: _,
             files: _,
-            together: _,
             script: _,
         } = self;
     }
@@ -70,7 +83,7 @@ impl<'a> Model for Faults<'a> {
 
     ghost Value = { List Fault };
 
-    ghost view = { λ f. left_in f.seed f.schools.now f.files f.together f.script };
+    ghost view = { λ f. left_in f.seed f.schools.now f.files f.script };
 }
 
 /// The next fault of each file alone, in the order schools, roster, lists.
@@ -116,24 +129,6 @@ fn judge_together(
     Ok(Found { faults, told: 0 })
 }
 
-/// The faults of what the good rows of the three files say together, as far as they are left; they are looked for where
-/// they were not yet.
-fn found_together(
-    alloc: Global,
-    seed: Seed,
-    schools: &[u8],
-    files: &Files<'_>,
-    together: Option<Found>,
-) -> Result<Found, AllocError>
-    requires { AreJudged files.now }
-    ensures { IfOk result (λ found. left_found found ≡ left_together seed schools.now files.now together) }
-{
-    match together {
-        Some(found) => Ok(found),
-        None => judge_together(alloc, seed, schools, files),
-    }
-}
-
 /// The next of faults that were found.
 fn next_found(found: &mut Found) -> Option<IntakeFault>
     ensures { MatchOption result ((left_found found.old ≡ []) × (left_found found.new ≡ []))
@@ -144,24 +139,29 @@ fn next_found(found: &mut Found) -> Option<IntakeFault>
     Some(fault)
 }
 
-/// The next fault of what the good rows of the three files say together.
-fn next_together(
+/// The next fault of the three files: of each alone, or else of what their good rows say together.
+fn next_of_files(
     alloc: Global,
     seed: Seed,
     schools: &[u8],
-    files: &Files<'_>,
-    together: &mut Option<Found>,
+    of: &mut OfFiles<'_>,
 ) -> Result<Option<IntakeFault>, AllocError>
-    requires { AreJudged files.now }
-    ensures { IfOk result (λ found. MatchOption found ((left_together seed schools.now files.now together.old ≡ [])
-        × (left_together seed schools.now files.now together.new ≡ []))
-        (λ fault. left_together seed schools.now files.now together.old
-        ≡ fault ∷ left_together seed schools.now files.now together.new)) }
+    ensures { IfOk result (λ found. MatchOption found
+        ((left_of seed schools.now of.old ≡ []) × (left_of seed schools.now of.new ≡ []))
+        (λ fault. left_of seed schools.now of.old ≡ fault ∷ left_of seed schools.now of.new)) }
 {
-    let mut found = found_together(alloc, seed, schools, files, together.take())?;
-    let next = next_found(&mut found);
-    *together = Some(found);
-    Ok(next)
+    match of {
+        OfFiles::Alone { files } => {
+            if let Some(fault) = next_alone(files)? {
+                return Ok(Some(fault));
+            }
+            let mut found = judge_together(alloc, seed, schools, files)?;
+            let next = next_found(&mut found);
+            *of = OfFiles::Together { found };
+            Ok(next)
+        }
+        OfFiles::Together { found } => Ok(next_found(found)),
+    }
 }
 
 /// Every fault of the texts of three files and of a script, to be told one after the other: for each faulty row its
@@ -193,8 +193,7 @@ pub fn every_fault<'a>(
         alloc,
         seed,
         schools,
-        files,
-        together: None,
+        files: OfFiles::Alone { files },
         script: judge_script(alloc, script),
     })
 }
@@ -211,17 +210,8 @@ impl<'a> Faults<'a> {
         ensures { IfOk result (λ found. MatchOption found ((self.old ≡ []) × (self.new ≡ []))
             (λ fault. self.old ≡ fault ∷ self.new)) }
     {
-        if let Some(fault) = next_alone(&mut self.files)? {
-            return Ok(Some(fault));
-        }
-        let together = next_together(
-            self.alloc,
-            self.seed,
-            self.schools,
-            &self.files,
-            &mut self.together,
-        )?;
-        if let Some(fault) = together {
+        let of_files = next_of_files(self.alloc, self.seed, self.schools, &mut self.files)?;
+        if let Some(fault) = of_files {
             return Ok(Some(fault));
         }
         match self.script.next_fault()? {

@@ -15,7 +15,7 @@ use crate::words::{
     column_words, count_words, header_words, hint_words, push_general_words, push_refusal_words,
 };
 use sc_decimal::{push_number, read_number};
-use sc_intake::{Cause, Source};
+use sc_intake::{Blanks, Cause, Source, trimmed};
 use sc_papers::{Refusal, SchoolNo, StudentNo};
 use std::alloc::AllocError;
 
@@ -91,7 +91,7 @@ fn push_subject(text: &mut Vec<u8>, form: Form, line: &[u8]) -> Result<(), Alloc
     }
 }
 
-/// Adds what is wrong with a row that is no header.
+/// Adds what is wrong with a row that is no header, without the blanks around it.
 fn push_header(text: &mut Vec<u8>, source: Source, line: &[u8]) -> Result<(), AllocError>
     ensures { OnOk result (text.new.items ≡ text.old.items ++ about_header source line.now) }
 {
@@ -262,7 +262,7 @@ fn push_line(
 {
     let form = form_of(source, line);
     match cause {
-        Cause::Header => push_header(text, source, line),
+        Cause::Header => push_header(text, source, trimmed(line, Blanks::InLine)),
         Cause::Fields => push_count(text, form, line),
         Cause::Number | Cause::Range => push_fields(text, source, cause, form, line),
         Cause::Refused(refusal) => push_refused(text, refusal, form, line),

@@ -45,12 +45,12 @@ fn has_capital(text: &[u8]) -> bool
     false
 }
 
-/// Why a line may be no header, where it can be seen.
+/// Why a line, without the blanks around it, may be no header, where it can be seen.
 pub(crate) fn hint_words(line: &[u8]) -> &'static str
     ensures { result.now ≡ hint_words line.now }
 {
     if is_marked(line) {
-        return "; a second byte order mark stands here";
+        return "; a byte order mark stands here";
     }
     if has_byte(0, line) {
         return "; this is UTF-16, and UTF-8 is expected";

@@ -139,7 +139,16 @@ const LINES: &[CheckedRow] = &[
             "\u{FEFF}\u{FEFF}student,choices\n",
         ),
         Some("\u{FEFF}\u{FEFF}0,withdraw,1\n"),
-        "schools.csv line 1 \"School,Zone,Seats\": the header school,zone,seats is expected; it has capital letters. Header\nroster.csv line 1 \"s\\x00t\\x00u\\x00\": the header student,zone,siblings is expected, or student,zone,siblings,continuing; this is UTF-16, and UTF-8 is expected. Header\nlists.csv line 1 \"\\xEF\\xBB\\xBFstudent,choices\": the header student,choices is expected; a second byte order mark stands here. Header\nscript.csv line 1 \"\\xEF\\xBB\\xBF0,withdraw,1\": one byte order mark at most is expected; a second byte order mark stands here. Header\n|Ok(Faulty)",
+        "schools.csv line 1 \"School,Zone,Seats\": the header school,zone,seats is expected; it has capital letters. Header\nroster.csv line 1 \"s\\x00t\\x00u\\x00\": the header student,zone,siblings is expected, or student,zone,siblings,continuing; this is UTF-16, and UTF-8 is expected. Header\nlists.csv line 1 \"\\xEF\\xBB\\xBFstudent,choices\": the header student,choices is expected; a byte order mark stands here. Header\nscript.csv line 1 \"\\xEF\\xBB\\xBF0,withdraw,1\": one byte order mark at most is expected; a byte order mark stands here. Header\n|Ok(Faulty)",
+    ),
+    (
+        (
+            " \tschool,zone,seat \n",
+            "\n\u{FEFF}student,zone,siblings\n",
+            " \n",
+        ),
+        None,
+        "schools.csv line 1 \"school,zone,seat\": the header school,zone,seats is expected. Header\nroster.csv line 2 \"\\xEF\\xBB\\xBFstudent,zone,siblings\": the header student,zone,siblings is expected, or student,zone,siblings,continuing; a byte order mark stands here. Header\nlists.csv line 1 \"\": the header student,choices is expected. Header\n|Ok(Faulty)",
     ),
 ];
 
@@ -149,11 +158,11 @@ const REFUSALS: &[CheckedRow] = &[
     (
         (
             "school,zone,seats\n10,0,1\n20,0,1\n",
-            "student,zone,siblings,continuing\n1,0,,\n2,0,20 20,\n3,0,,30\n4,0,20 30,\n5,0,,\n",
-            "student,choices\n5,20 20\n4,10\n3,10\n2,10\n1,x\n1,10 40\n1,50\n",
+            "student,zone,siblings,continuing\n1,0,,\n2,0,20 20,\n3,0,,30\n4,0,20 30,\n5,0,,\n6,0,30,30\n",
+            "student,choices\n5,20 20\n4,10\n3,10\n2,10\n1,x\n1,10 40\n1,50\n6,10\n",
         ),
         None,
-        "lists.csv line 6, student 1, choices \"x\": numbers of 1 to 9 digits with spaces between them are expected. Number\nlists.csv line 8, student 1: an earlier row has this student. Twice\nlists.csv line 7, student 1, choices \"10 40\" (roster.csv line 2): a row with school 40 is expected in the schools. Refused 6 UnknownSchool 40\nroster.csv line 3, student 2, siblings \"20 20\": the list names school 20 twice. Refused 7 SchoolTwice 20\nroster.csv line 4, student 3, continuing \"30\": a row with school 30 is expected in the schools. Refused 6 UnknownSchool 30\nroster.csv line 5, student 4, siblings \"20 30\": a row with school 30 is expected in the schools. Refused 6 UnknownSchool 30\nlists.csv line 2, student 5, choices \"20 20\" (roster.csv line 6): the list names school 20 twice. Refused 7 SchoolTwice 20\n|Ok(Faulty)",
+        "lists.csv line 6, student 1, choices \"x\": numbers of 1 to 9 digits with spaces between them are expected. Number\nlists.csv line 8, student 1: an earlier row has this student. Twice\nlists.csv line 7, student 1, choices \"10 40\" (roster.csv line 2): a row with school 40 is expected in the schools. Refused 6 UnknownSchool 40\nroster.csv line 3, student 2, siblings \"20 20\": the list names school 20 twice. Refused 7 SchoolTwice 20\nroster.csv line 4, student 3, continuing \"30\": a row with school 30 is expected in the schools. Refused 6 UnknownSchool 30\nroster.csv line 5, student 4, siblings \"20 30\": a row with school 30 is expected in the schools. Refused 6 UnknownSchool 30\nlists.csv line 2, student 5, choices \"20 20\" (roster.csv line 6): the list names school 20 twice. Refused 7 SchoolTwice 20\nroster.csv line 7, student 6, continuing \"30\": a row with school 30 is expected in the schools. Refused 6 UnknownSchool 30\n|Ok(Faulty)",
     ),
     (
         (
