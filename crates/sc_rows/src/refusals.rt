@@ -145,7 +145,7 @@ fn student_text(alloc: Global, student: &Student) -> Result<String, AllocError> 
 }
 
 /// The students of the papers, in order of entry, a line each.
-fn students_text(alloc: Global, papers: &Papers) -> Result<String, AllocError> {
+pub(super) fn students_text(alloc: Global, papers: &Papers) -> Result<String, AllocError> {
     let mut text = String::new(alloc);
     for position in 0..papers.students_len() {
         if let Some(number) = papers.student_at(position) {
