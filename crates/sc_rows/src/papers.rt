@@ -173,7 +173,7 @@ fn amend_each_or_keep(rt: &impl Abort, alloc: Global, papers: &mut Papers, scrip
 // Run with each allocation refused in turn, this one sees want of memory from each amendment that
 // takes any.
 #[test]
-fn each_growth_refused(rt: HostRuntime) {
+fn papers_stay_where_memory_is_refused(rt: HostRuntime) {
     let mut papers = papers_of(&rt, rt.alloc(), MARKET_B);
     let script = "enter,3,1,10,10\nrerank,1,20\ncorrect,2,1,20\nwithdraw,1\nadd,10,1\nclose,10,1\n";
     amend_each_or_keep(&rt, rt.alloc(), &mut papers, script);

@@ -342,7 +342,7 @@ fn grow<R: Roll>(rt: &impl Abort, alloc: Global) -> Result<(), AllocError> {
 
 // Run with each allocation refused in turn, this one sees that a refused growth leaves a roll as it was.
 #[test]
-fn each_growth_refused(rt: HostRuntime) {
+fn rolls_stay_where_memory_is_refused(rt: HostRuntime) {
     grow::<SortedRoll>(&rt, rt.alloc()).expect(&rt, "memory");
     grow::<HeapRoll>(&rt, rt.alloc()).expect(&rt, "memory");
 }
