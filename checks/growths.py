@@ -19,7 +19,7 @@ CRATES = HERE.parent / "crates"
 # The crate, and what the names of its tests of growths end with.
 REGIONS = ("regions::a_student_enters", "regions::a_student_or_a_school_changes", "regions::an_unknown_student_is_refused")
 DISTRICTS = ("districts::districts_that_were_joined_tell_the_region", "districts::districts_follow_who_leaves_and_who_comes")
-TESTED = (("sc_growths", ""), ("sc_rows", ("each_growth_refused", "a_spent_round", "their_next_choices", *REGIONS, *DISTRICTS)))
+TESTED = (("sc_growths", ""), ("sc_rows", ("_where_memory_is_refused", "a_spent_round", "their_next_choices", *REGIONS, *DISTRICTS)))
 
 
 def built(crate):

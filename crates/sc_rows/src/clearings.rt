@@ -3,7 +3,7 @@
 //!
 //! Each line of a script is a record and, after `=>`, what is wanted: the answer, how many proposals the
 //! last settling then made, and the standing that is left.
-use crate::comparing::same;
+use crate::comparing::{same, same_in};
 use crate::given::{answered, expect_answered, expect_said, papers_of, school, student, wanted_of};
 use sc_markets::{
     FIVE_STUDENTS, Files, MARKET_A, MARKET_B, MARKET_B_CONTINUING, TWO_STUDENTS, amendment,
@@ -56,13 +56,18 @@ fn expect_left(rt: &impl Abort, alloc: Global, clearing: &mut Clearing, record: 
     expect_answered(rt, record, left, want);
 }
 
+/// The record of a line leaves what is wanted.
+fn expect_line(rt: &impl Abort, alloc: Global, clearing: &mut Clearing, line: &str) {
+    let (record, want) = wanted_of(rt, line);
+    expect_left(rt, alloc, clearing, record, want);
+}
+
 /// The clearing of the market has this standing, and the records leave what is wanted, one after another.
 fn walk(rt: &impl Abort, alloc: Global, files: Files<'_>, opening: &str, script: &str) {
     let mut clearing = open(rt, alloc, files);
     expect_standing(rt, alloc, &clearing, opening);
     for line in script.lines() {
-        let (record, want) = wanted_of(rt, line);
-        expect_left(rt, alloc, &mut clearing, record, want);
+        expect_line(rt, alloc, &mut clearing, line);
     }
 }
 
@@ -73,7 +78,7 @@ fn market_a_and_a_seat_closed(rt: HostRuntime) {
 }
 
 #[test]
-fn market_b_and_a_newcomer_who_withdraws(rt: HostRuntime) {
+fn market_b_and_a_newcomer_until_the_newcomer_withdraws(rt: HostRuntime) {
     let script = "\
 enter,3,1,10,10 => ok, 3: 1:20 2:0 3:10 |(1,10)(2,20)(2,10)
 withdraw,3 => ok, 0: 1:10 2:20 |
@@ -111,6 +116,25 @@ fn a_correction_rewinds_to_the_start(rt: HostRuntime) {
     let opening = "1:10 2:0 3:0 4:20 5:20 |(2,10)(3,20)(2,20)";
     let script = "correct,1,0, => ok, 6: 1:0 2:10 3:0 4:20 5:20 |(1,10)(1,20)(3,20)\n";
     walk(&rt, rt.alloc(), FIVE_STUDENTS, opening, script);
+}
+
+/// The records, one after another, are accepted, and the last settling made so many proposals.
+fn expect_proposals(rt: &impl Abort, alloc: Global, files: Files<'_>, records: &str, want: u64) {
+    let mut clearing = open(rt, alloc, files);
+    for record in records.lines() {
+        let answer = answer(rt, alloc, &mut clearing, record);
+        expect_answered(rt, record, answer, "ok");
+    }
+    same_in(rt, &clearing.proposals_last(), &want, records);
+}
+
+#[test]
+fn counts_of_proposals(rt: HostRuntime) {
+    let alloc = rt.alloc();
+    expect_proposals(&rt, alloc, MARKET_B, "enter,3,1,10,10", 3);
+    expect_proposals(&rt, alloc, MARKET_B, "enter,3,1,10,10\nwithdraw,3", 0);
+    expect_proposals(&rt, alloc, MARKET_B, "enter,3,1,10,10\nadd,10,1", 3);
+    expect_proposals(&rt, alloc, FIVE_STUDENTS, "correct,1,0,", 6);
 }
 
 /// Two schools with a seat each, and no student lists both. Students 2 and 3 have a sibling there.
@@ -234,32 +258,37 @@ rerank,1,10 10 => SchoolTwice 10, 5: 1:20 2:0 3:10 |(1,10)(2,20)(2,10)
     walk(&rt, rt.alloc(), MARKET_B, "1:10 2:20 |", script);
 }
 
+/// A student goes and comes back, as these lines say, with the same key at school 1.
+fn expect_the_same_key(
+    rt: &impl Abort,
+    alloc: Global,
+    clearing: &mut Clearing,
+    number: u32,
+    [going, coming]: [&str; 2],
+) {
+    let (student, one_school) = (student(rt, number), school(rt, 1));
+    let before = clearing.papers().key(student, one_school);
+    assert!(rt; before.is_some());
+    expect_line(rt, alloc, clearing, going);
+    assert!(rt; clearing.papers().key(student, one_school).is_none());
+    expect_line(rt, alloc, clearing, coming);
+    assert!(rt; clearing.papers().key(student, one_school) == before);
+}
+
 #[test]
 fn withdraw_and_return(rt: HostRuntime) {
-    let script = "\
-withdraw,2 => ok, 0: 1:1 |
-enter,2,0,,1 => ok, 1: 1:0 2:1 |(1,1)
-withdraw,1 => ok, 1: 2:1 |
-enter,1,0,,1 => ok, 1: 2:1 1:0 |(1,1)
-";
-    walk(&rt, rt.alloc(), TWO_STUDENTS, "1:0 2:1 |(1,1)", script);
-}
-
-/// Student 2 goes and comes back, with the same key at school 1.
-fn expect_the_same_key(rt: &impl Abort, alloc: Global, clearing: &mut Clearing) {
-    let (two, one_school) = (student(rt, 2), school(rt, 1));
-    let before = clearing.papers().key(two, one_school);
-    assert!(rt; before.is_some());
-    expect_left(rt, alloc, clearing, "withdraw,2", "ok, 0: 1:1 |");
-    assert!(rt; clearing.papers().key(two, one_school).is_none());
-    expect_left(rt, alloc, clearing, "enter,2,0,,1", "ok, 1: 1:0 2:1 |(1,1)");
-    assert!(rt; clearing.papers().key(two, one_school) == before);
-}
-
-#[test]
-fn withdraw_and_return_with_the_same_key(rt: HostRuntime) {
     let mut clearing = open(&rt, rt.alloc(), TWO_STUDENTS);
-    expect_the_same_key(&rt, rt.alloc(), &mut clearing);
+    expect_standing(&rt, rt.alloc(), &clearing, "1:0 2:1 |(1,1)");
+    let lines = [
+        "withdraw,2 => ok, 0: 1:1 |",
+        "enter,2,0,,1 => ok, 1: 1:0 2:1 |(1,1)",
+    ];
+    expect_the_same_key(&rt, rt.alloc(), &mut clearing, 2, lines);
+    let lines = [
+        "withdraw,1 => ok, 1: 2:1 |",
+        "enter,1,0,,1 => ok, 1: 2:1 1:0 |(1,1)",
+    ];
+    expect_the_same_key(&rt, rt.alloc(), &mut clearing, 1, lines);
 }
 
 #[test]

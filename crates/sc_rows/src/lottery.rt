@@ -59,7 +59,7 @@ fn expect_fault(rt: &impl Abort, digits: &[u8], fault: SeedError) {
 }
 
 #[test]
-fn texts_that_are_no_seed(rt: HostRuntime) {
+fn constructors_refusals_of_seeds(rt: HostRuntime) {
     expect_fault(&rt, &ZEROS[..63], SeedError::Length);
     expect_fault(&rt, &[b'0'; 66], SeedError::Length);
     expect_fault(&rt, b"", SeedError::Length);

@@ -1,6 +1,7 @@
 //! Papers: what they hold, the keys, and what each amendment changes.
 use crate::comparing::same_in;
-use crate::given::{amend, amendment_of, papers_of, school, student};
+use crate::given::{amend, amendment_of, expect_said, papers_of, school, student};
+use crate::refusals::students_text;
 use sc_markets::{Files, MARKET_B, assignment};
 use sc_papers::{Assignment, FlatPapers, Key, Papers, Refusal, Seed, Student};
 use std::alloc::Global;
@@ -137,9 +138,17 @@ fn an_assignment_is_a_map(rt: HostRuntime) {
     expect_assigned_in_a_copy(&rt, &assignment);
 }
 
-/// The papers have so many students, and make the amendment.
-fn expect_kept(rt: &impl Abort, alloc: Global, papers: &mut Papers, before: usize, record: &str) {
-    assert!(rt; papers.students_len() == before);
+/// The students of the papers as a text, made again where memory was refused.
+fn students_of(rt: &impl Abort, alloc: Global, papers: &Papers) -> String {
+    match students_text(alloc, papers) {
+        Ok(students) => students,
+        Err(_) => students_text(alloc, papers).expect(rt, "memory"),
+    }
+}
+
+/// The papers have these students, and make the amendment.
+fn expect_kept(rt: &impl Abort, alloc: Global, papers: &mut Papers, before: &str, record: &str) {
+    expect_said(rt, record, students_text(alloc, papers), before);
     let again = amendment_of(rt, alloc, record);
     same_in(rt, &papers.apply(again), &Ok(()), record);
 }
@@ -147,10 +156,10 @@ fn expect_kept(rt: &impl Abort, alloc: Global, papers: &mut Papers, before: usiz
 /// Makes an amendment for which memory may be refused: if it is, the papers stay as they were, and the same
 /// amendment then succeeds.
 fn amend_or_keep(rt: &impl Abort, alloc: Global, papers: &mut Papers, record: &str) {
-    let before = papers.students_len();
+    let before = students_of(rt, alloc, papers);
     let first = amendment_of(rt, alloc, record);
     if papers.apply(first) == Err(Refusal::OutOfMemory) {
-        expect_kept(rt, alloc, papers, before, record);
+        expect_kept(rt, alloc, papers, before.as_str(), record);
     }
 }
 
@@ -164,7 +173,7 @@ fn amend_each_or_keep(rt: &impl Abort, alloc: Global, papers: &mut Papers, scrip
 // Run with each allocation refused in turn, this one sees want of memory from each amendment that
 // takes any.
 #[test]
-fn each_growth_refused(rt: HostRuntime) {
+fn papers_stay_where_memory_is_refused(rt: HostRuntime) {
     let mut papers = papers_of(&rt, rt.alloc(), MARKET_B);
     let script = "enter,3,1,10,10\nrerank,1,20\ncorrect,2,1,20\nwithdraw,1\nadd,10,1\nclose,10,1\n";
     amend_each_or_keep(&rt, rt.alloc(), &mut papers, script);

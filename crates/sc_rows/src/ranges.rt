@@ -42,7 +42,7 @@ fn number_types_have_their_ranges(rt: HostRuntime) {
 }
 
 #[test]
-fn last_stamp_has_no_next(rt: HostRuntime) {
+fn stamps_have_a_last_one(rt: HostRuntime) {
     let last = Stamp::new(999_999_999).expect(&rt, "a stamp");
     assert!(rt; last.next().is_none());
     assert!(rt; Stamp::new(1_000_000_000).is_none());

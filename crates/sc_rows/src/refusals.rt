@@ -39,7 +39,7 @@ fn fill_with_schools(rt: &impl Abort, papers: &mut Papers) {
 }
 
 #[test]
-fn refusals_of_schools(rt: HostRuntime) {
+fn constructors_refusals_of_schools(rt: HostRuntime) {
     let mut papers = zero_papers(&rt, rt.alloc());
     fill_with_schools(&rt, &mut papers);
     drop(papers);
@@ -78,7 +78,7 @@ fn fill_with_students(rt: &impl Abort, alloc: Global, papers: &mut Papers) {
 }
 
 #[test]
-fn the_roster_is_full(rt: HostRuntime) {
+fn constructors_refusals_at_a_full_roster(rt: HostRuntime) {
     let mut papers = zero_papers(&rt, rt.alloc());
     expect_school(&rt, &mut papers, 10, Ok(()));
     fill_with_students(&rt, rt.alloc(), &mut papers);
@@ -145,7 +145,7 @@ fn student_text(alloc: Global, student: &Student) -> Result<String, AllocError> 
 }
 
 /// The students of the papers, in order of entry, a line each.
-fn students_text(alloc: Global, papers: &Papers) -> Result<String, AllocError> {
+pub(super) fn students_text(alloc: Global, papers: &Papers) -> Result<String, AllocError> {
     let mut text = String::new(alloc);
     for position in 0..papers.students_len() {
         if let Some(number) = papers.student_at(position) {

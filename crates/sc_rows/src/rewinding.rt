@@ -1,6 +1,6 @@
 //! From where on an amendment settles anew.
-use crate::given::{expect_answered, papers_of, wanted_of};
-use sc_markets::{Files, MARKET_B_CONTINUING, amendment};
+use crate::given::{amend, expect_answered, papers_of, wanted_of};
+use sc_markets::{FIVE_STUDENTS, Files, MARKET_B_CONTINUING, amendment};
 use sc_papers::{FlatPapers, Refusal};
 use sc_repair::rewind_point;
 use std::alloc::{AllocError, Global};
@@ -53,12 +53,16 @@ withdraw,99 => UnknownStudent
 }
 
 #[test]
+fn a_correction_rewinds_to_the_start(rt: HostRuntime) {
+    let papers = papers_of(&rt, rt.alloc(), FIVE_STUDENTS);
+    expect_points(&rt, rt.alloc(), &papers, "correct,1,0, => 0\n");
+}
+
+#[test]
 fn continuing_against_a_newcomer(rt: HostRuntime) {
-    let script = "\
-correct,2,0,10 => 1
-correct,2,0,10,77 => UnknownSchool 77
-enter,3,1,10,10 => 2
-";
-    let papers = papers_of(&rt, rt.alloc(), MARKET_B_CONTINUING);
+    let mut papers = papers_of(&rt, rt.alloc(), MARKET_B_CONTINUING);
+    expect_points(&rt, rt.alloc(), &papers, "enter,3,1,10,10 => 2\n");
+    amend(&rt, rt.alloc(), &mut papers, "enter,3,1,10,10");
+    let script = "correct,2,0,10 => 1\ncorrect,2,0,10,77 => UnknownSchool 77\n";
     expect_points(&rt, rt.alloc(), &papers, script);
 }

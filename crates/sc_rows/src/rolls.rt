@@ -106,33 +106,59 @@ impl<'a> OneOffer<'a> {
     }
 }
 
-/// Makes these offers, one after the other, to a roll on which nobody is, and sees what each comes to.
+/// Makes these offers, one after the other, and sees what each comes to.
 fn expect_offers<R: Roll>(
     rt: &impl Abort,
-    alloc: Global,
     roll: &mut R,
+    seen: &mut Vec<StudentNo>,
     offers: &[OneOffer<'_>],
 ) -> Result<(), AllocError>
-    requires { R.keys roll.old ≡ [] }
+    requires within { length (R.keys roll.old) ≤ R.seats roll.old }
+    requires known { All (λ held. Contains seen.old.items held.student) (R.keys roll.old) }
+    ensures within { OnOk result (length (R.keys roll.new) ≤ R.seats roll.new) }
+    ensures known { OnOk result (All (λ held. Contains seen.new.items held.student) (R.keys roll.new)) }
 {
-    let mut seen = Vec::new(alloc);
     for offer in offers {
-        expect_out(rt, roll, &mut seen, offer.key, offer.out)?;
+        expect_out(rt, roll, seen, offer.key, offer.out)?;
         expect_same(rt, roll.worst(), offer.worst);
     }
     Ok(())
 }
 
+/// Makes these offers to a roll of so many seats on which nobody is.
+fn expect_offers_to_none<R: Roll>(
+    rt: &impl Abort,
+    alloc: Global,
+    number: u32,
+    offers: &[OneOffer<'_>],
+) -> Result<(), AllocError> {
+    let mut seen = Vec::new(alloc);
+    let mut roll = R::with_capacity(alloc, seats(rt, number));
+    expect_offers(rt, &mut roll, &mut seen, offers)
+}
+
+/// A key of class 3 by the student's draw under the zero seed.
+fn drawn(rt: &impl Abort, number: u32) -> Key {
+    let draw = match number {
+        1 => 0xe56a5d4028bd8653,
+        2 => 0xb819d2bd1aed8da0,
+        3 => 0xccef36a8c70d778b,
+        _ => 0x7c5941da8d485751,
+    };
+    key(rt, 3, draw, number)
+}
+
 /// Who stays on a roll of two seats.
-fn offer_four<R: Roll>(rt: &impl Abort, alloc: Global, roll: &mut R) -> Result<(), AllocError>
+fn offer_four<R: Roll>(
+    rt: &impl Abort,
+    roll: &mut R,
+    seen: &mut Vec<StudentNo>,
+) -> Result<(), AllocError>
     requires { R.keys roll.old ≡ [] }
+    ensures within { OnOk result (length (R.keys roll.new) ≤ R.seats roll.new) }
+    ensures known { OnOk result (All (λ held. Contains seen.new.items held.student) (R.keys roll.new)) }
 {
-    let keys = [
-        key(rt, 3, 0xe56a5d4028bd8653, 1),
-        key(rt, 3, 0xb819d2bd1aed8da0, 2),
-        key(rt, 3, 0xccef36a8c70d778b, 3),
-        key(rt, 3, 0x7c5941da8d485751, 4),
-    ];
+    let keys = [drawn(rt, 1), drawn(rt, 2), drawn(rt, 3), drawn(rt, 4)];
     let [one, two, three, four] = &keys;
     let offers = [
         OneOffer::new(three, None, Some(three)),
@@ -140,26 +166,50 @@ fn offer_four<R: Roll>(rt: &impl Abort, alloc: Global, roll: &mut R) -> Result<(
         OneOffer::new(four, Some(three), Some(two)),
         OneOffer::new(one, Some(one), Some(two)),
     ];
-    expect_offers(rt, alloc, roll, &offers)
+    expect_offers(rt, roll, seen, &offers)
+}
+
+/// A copy of a roll of two seats holds the same keys: the last one first, each goes for a better one. The roll still
+/// holds them.
+fn expect_copied_keys<R: Roll>(
+    rt: &impl Abort,
+    roll: &R,
+    seen: &mut Vec<StudentNo>,
+) -> Result<(), AllocError>
+    requires within { length (R.keys roll.now) ≤ R.seats roll.now }
+    requires known { All (λ held. Contains seen.old.items held.student) (R.keys roll.now) }
+{
+    let keys = [
+        drawn(rt, 2),
+        drawn(rt, 4),
+        key(rt, 0, 0, 5),
+        key(rt, 0, 0, 6),
+    ];
+    let [two, four, five, six] = &keys;
+    let offers = [
+        OneOffer::new(five, Some(two), Some(four)),
+        OneOffer::new(six, Some(four), Some(six)),
+    ];
+    let mut copy = roll.copy()?;
+    expect_copied(rt, roll, &copy, 2, Some(two));
+    expect_offers(rt, &mut copy, seen, &offers)?;
+    expect_same(rt, roll.worst(), Some(two));
+    Ok(())
 }
 
 /// Who stays on a roll of two seats, and on a copy of it.
 fn two_seats<R: Roll>(rt: &impl Abort, alloc: Global) -> Result<(), AllocError> {
+    let mut seen = Vec::new(alloc);
     let mut roll = R::with_capacity(alloc, seats(rt, 2));
-    offer_four(rt, alloc, &mut roll)?;
-    let copy = roll.copy()?;
-    let two = key(rt, 3, 0xb819d2bd1aed8da0, 2);
-    expect_copied(rt, &roll, &copy, 2, Some(&two));
-    drop(copy);
-    Ok(())
+    offer_four(rt, &mut roll, &mut seen)?;
+    expect_copied_keys(rt, &roll, &mut seen)
 }
 
 /// Without a seat nobody stays.
 fn no_seat<R: Roll>(rt: &impl Abort, alloc: Global) -> Result<(), AllocError> {
     let seven = key(rt, 3, 5, 7);
     let offers = [OneOffer::new(&seven, Some(&seven), None)];
-    let mut none = R::with_capacity(alloc, seats(rt, 0));
-    expect_offers(rt, alloc, &mut none, &offers)
+    expect_offers_to_none::<R>(rt, alloc, 0, &offers)
 }
 
 /// With one seat the number settles equal draws.
@@ -171,8 +221,7 @@ fn few_seats<R: Roll>(rt: &impl Abort, alloc: Global) -> Result<(), AllocError> 
         OneOffer::new(&eight, None, Some(&eight)),
         OneOffer::new(&seven, Some(&eight), Some(&seven)),
     ];
-    let mut roll = R::with_capacity(alloc, seats(rt, 1));
-    expect_offers(rt, alloc, &mut roll, &offers)
+    expect_offers_to_none::<R>(rt, alloc, 1, &offers)
 }
 
 #[test]
@@ -293,7 +342,7 @@ fn grow<R: Roll>(rt: &impl Abort, alloc: Global) -> Result<(), AllocError> {
 
 // Run with each allocation refused in turn, this one sees that a refused growth leaves a roll as it was.
 #[test]
-fn each_growth_refused(rt: HostRuntime) {
+fn rolls_stay_where_memory_is_refused(rt: HostRuntime) {
     grow::<SortedRoll>(&rt, rt.alloc()).expect(&rt, "memory");
     grow::<HeapRoll>(&rt, rt.alloc()).expect(&rt, "memory");
 }

@@ -75,21 +75,6 @@ pub(super) fn expect_both(
     expect_settled(rt, alloc, heap, want);
 }
 
-#[test]
-fn one_seat_two_students(rt: HostRuntime) {
-    let papers = papers_of(&rt, rt.alloc(), TWO_STUDENTS);
-    let settled = settle(rt.alloc(), &papers);
-    expect_settled(&rt, rt.alloc(), settled, "(1,1) 2: 2 at 1");
-}
-
-#[test]
-fn a_newcomer(rt: HostRuntime) {
-    let papers = papers_of(&rt, rt.alloc(), MARKET_B_AND_NEWCOMER);
-    let settled = settle(rt.alloc(), &papers);
-    let want = "(1,10)(2,20)(2,10) 5: 1 at 20 3 at 10";
-    expect_settled(&rt, rt.alloc(), settled, want);
-}
-
 /// The outcome by the keys at the first choices.
 fn expect_placed(rt: &impl Abort, alloc: Global, papers: &FlatPapers, want: &str) {
     let settled = settle_places(alloc, papers).expect(rt, "memory");
@@ -228,25 +213,64 @@ fn enter_all<R: Roll>(round: &mut Round<R>, papers: &FlatPapers) -> Result<(), A
     Ok(())
 }
 
-/// Enters all students, the first one first.
-fn settle_forwards<R: Roll>(alloc: Global, papers: &FlatPapers) -> Result<Settled, AllocError> {
+/// The students stand at these schools, in order of entry: 0 is none.
+fn expect_next<R: Roll>(rt: &impl Abort, papers: &FlatPapers, round: &Round<R>, next: &[u32])
+    requires { Fits papers.now (view_of R.keys R.seats round.now) }
+{
+    same(rt, &next.len(), &papers.students_len());
+    for (position, want) in next.iter().enumerate() {
+        let student = papers.student_at(position).expect(rt, "a student");
+        let found = round.next_choice(papers, student);
+        same(rt, &found.map_or(0, |school| school.get()), want);
+    }
+}
+
+/// Enters all students, the first one first, who then stand at these schools.
+fn settle_forwards<R: Roll>(
+    rt: &impl Abort,
+    alloc: Global,
+    papers: &FlatPapers,
+    next: &[u32],
+) -> Result<Settled, AllocError> {
     let mut round: Round<R> = Round::start(alloc, papers)?;
     enter_all(&mut round, papers)?;
+    expect_next(rt, papers, &round, next);
     round.into_settled(papers)
 }
 
+/// In order of entry the students of a market come to stand at these schools, and to what is wanted, by `settle` and by a
+/// round with rolls of either kind.
+fn expect_in_order(rt: &impl Abort, alloc: Global, files: Files<'_>, next: &[u32], want: &str) {
+    let papers = papers_of(rt, alloc, files);
+    expect_settled(rt, alloc, settle(alloc, &papers), want);
+    let sorted = settle_forwards::<SortedRoll>(rt, alloc, &papers, next);
+    let heap = settle_forwards::<HeapRoll>(rt, alloc, &papers, next);
+    expect_both(rt, alloc, sorted, heap, want);
+}
+
 #[test]
-fn entry_in_order(rt: HostRuntime) {
-    let papers = papers_of(&rt, rt.alloc(), FIVE_STUDENTS);
-    let want = "(2,10)(3,20)(2,20) 6: 1 at 10 4 at 20 5 at 20";
-    expect_settled(&rt, rt.alloc(), settle(rt.alloc(), &papers), want);
-    let sorted = settle_forwards::<SortedRoll>(rt.alloc(), &papers);
-    let heap = settle_forwards::<HeapRoll>(rt.alloc(), &papers);
-    expect_both(&rt, rt.alloc(), sorted, heap, want);
+fn one_seat_two_students(rt: HostRuntime) {
+    expect_in_order(&rt, rt.alloc(), TWO_STUDENTS, &[0, 1], "(1,1) 2: 2 at 1");
+}
+
+#[test]
+fn market_b_and_a_newcomer_in_lists_and_heaps(rt: HostRuntime) {
+    let opening = " 2: 1 at 10 2 at 20";
+    expect_in_order(&rt, rt.alloc(), MARKET_B, &[10, 20], opening);
+    let want = "(1,10)(2,20)(2,10) 5: 1 at 20 3 at 10";
+    expect_in_order(&rt, rt.alloc(), MARKET_B_AND_NEWCOMER, &[20, 0, 10], want);
 }
 
 #[test]
 fn entry_in_reverse(rt: HostRuntime) {
+    let in_order = "(2,10)(3,20)(2,20) 6: 1 at 10 4 at 20 5 at 20";
+    expect_in_order(
+        &rt,
+        rt.alloc(),
+        FIVE_STUDENTS,
+        &[10, 0, 0, 20, 20],
+        in_order,
+    );
     let papers = papers_of(&rt, rt.alloc(), FIVE_STUDENTS);
     let want = "(3,20)(2,10)(2,20) 6: 1 at 10 4 at 20 5 at 20";
     let sorted = settle_backwards::<SortedRoll>(rt.alloc(), &papers);

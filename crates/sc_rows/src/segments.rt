@@ -358,7 +358,7 @@ fn expect_growths(rt: &impl Abort, alloc: Global, segments: &mut Segments)
 
 // Run with each allocation refused in turn, this one sees want of memory from each call that takes any.
 #[test]
-fn each_growth_refused(rt: HostRuntime) {
+fn segments_stay_where_memory_is_refused(rt: HostRuntime) {
     let mut segments = segments_of_three(&rt, rt.alloc());
     expect_growths(&rt, rt.alloc(), &mut segments);
 }
