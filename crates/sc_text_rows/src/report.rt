@@ -123,12 +123,27 @@ fn expect(rt: &impl Abort, alloc: Global, rows: Rows, table: &[(View, &str)]) {
 }
 
 #[test]
+fn headers_alone(rt: HostRuntime) {
+    let table = [(View::Assignment, "student,school\n")];
+    expect(&rt, rt.alloc(), ("", "", ""), &table);
+}
+
+const TWO_STUDENTS: Rows = ("1,0,1\n", "1,0,\n2,0,\n", "1,1\n2,1\n");
+
+/// The report of one seat and two students.
+const OF_TWO_STUDENTS: (View, &str) = (
+    View::Report,
+    "student,school\n1,-\n2,1\nschool,seats,held,class,draw,student\n1,1,1,4,b819d2bd1aed8da0,2\nstudent,school,reason\n1,1,lottery\n",
+);
+
+#[test]
 fn one_seat_two_students(rt: HostRuntime) {
     expect(
         &rt,
         rt.alloc(),
-        ("1,0,1\n", "1,0,\n2,0,\n", "1,1\n2,1\n"),
+        TWO_STUDENTS,
         &[
+            OF_TWO_STUDENTS,
             (View::Assignment, "student,school\n1,-\n2,1\n"),
             (
                 View::Cutoffs,
@@ -137,6 +152,13 @@ fn one_seat_two_students(rt: HostRuntime) {
             (View::Reasons, "student,school,reason\n1,1,lottery\n"),
         ],
     );
+}
+
+#[test]
+fn withdraw_and_return(rt: HostRuntime) {
+    for records in &["withdraw,2\nenter,2,0,,1\n", "withdraw,1\nenter,1,0,,1\n"] {
+        expect_after(&rt, rt.alloc(), TWO_STUDENTS, records, &[OF_TWO_STUDENTS]);
+    }
 }
 
 #[test]
@@ -194,27 +216,6 @@ fn market_a_and_a_seat_closed(rt: HostRuntime) {
             (View::Copied, "1:20 2:0 "),
             (View::Papers, "2 schools, 2 students"),
         ],
-    );
-}
-
-/// Market A with school 10 in the zone of a third student who has a sibling there, and with schools and
-/// students in another order.
-const MARKET_B_AND_A_NEWCOMER: Rows = (
-    "20,0,1\n10,1,1\n",
-    "3,1,10\n2,0,10\n1,0,20\n",
-    "3,10\n2,20 10\n1,10 20\n",
-);
-
-#[test]
-fn a_newcomer_in_market_b(rt: HostRuntime) {
-    expect(
-        &rt,
-        rt.alloc(),
-        MARKET_B_AND_A_NEWCOMER,
-        &[(
-            View::Report,
-            "student,school\n1,20\n2,-\n3,10\nschool,seats,held,class,draw,student\n10,1,1,1,ccef36a8c70d778b,3\n20,1,1,2,e56a5d4028bd8653,1\nstudent,school,reason\n1,10,class\n2,20,class\n2,10,class\n",
-        )],
     );
 }
 
@@ -293,6 +294,27 @@ fn market_a_and_a_seat_closed_by_value(rt: HostRuntime) {
     let (schools, roster, lists) = MARKET_A;
     let mut clearing = clearing(rt.alloc(), schools, roster, lists).expect(&rt, "a clearing");
     expect_rows_of_market_a(&rt, rt.alloc(), &mut clearing);
+}
+
+/// Market A with school 10 in the zone of a third student who has a sibling there, and with schools and
+/// students in another order.
+const MARKET_B_AND_A_NEWCOMER: Rows = (
+    "20,0,1\n10,1,1\n",
+    "3,1,10\n2,0,10\n1,0,20\n",
+    "3,10\n2,20 10\n1,10 20\n",
+);
+
+#[test]
+fn market_b_and_a_newcomer_in_another_order(rt: HostRuntime) {
+    expect(
+        &rt,
+        rt.alloc(),
+        MARKET_B_AND_A_NEWCOMER,
+        &[(
+            View::Report,
+            "student,school\n1,20\n2,-\n3,10\nschool,seats,held,class,draw,student\n10,1,1,1,ccef36a8c70d778b,3\n20,1,1,2,e56a5d4028bd8653,1\nstudent,school,reason\n1,10,class\n2,20,class\n2,10,class\n",
+        )],
+    );
 }
 
 /// The reply to a record is the line that is wanted.
