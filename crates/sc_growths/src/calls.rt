@@ -182,7 +182,7 @@ fn table_of_files(rt: HostRuntime) {
 }
 
 /// The texts of the files of papers, one after the other.
-fn files_text(alloc: Global, files: &PapersFiles) -> Result<String, AllocError> {
+pub fn files_text(alloc: Global, files: &PapersFiles) -> Result<String, AllocError> {
     let schools = String::from_utf8_lossy(alloc, files.schools.as_slice())?;
     let roster = String::from_utf8_lossy(alloc, files.roster.as_slice())?;
     let lists = String::from_utf8_lossy(alloc, files.lists.as_slice())?;

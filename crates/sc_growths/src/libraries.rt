@@ -1,13 +1,15 @@
 //! The calls of the libraries.
 
+use crate::calls::files_text;
 use crate::comparing::same;
-use crate::market::{JOURNAL, LISTS, LOG, ROSTER, SCHOOLS, SCRIPT, seed};
+use crate::market::{EXPORTED, JOURNAL, LISTS, LOG, ROSTER, SCHOOLS, SCRIPT, seed};
 use crate::twice::{Call, expect, given};
 use sc_audit::{audit, check_stable};
+use sc_export::export;
 use sc_intake::{papers_of, read_lists, read_log, read_roster, read_schools, read_script};
 use sc_journal::{JournalCause, replay};
 use sc_markets::{market_b, stamped, standing};
-use sc_papers::{Papers, Refusal, Stamped};
+use sc_papers::{Papers, Refusal, SchoolNo, Stamp, Stamped, StudentNo};
 use sc_repair::{Clearing, Unsettled};
 use sc_report::report_text;
 use std::alloc::{AllocError, Global};
@@ -58,16 +60,55 @@ fn amendment(rt: &impl Abort, alloc: Global, record: &str) -> Stamped {
     }
 }
 
-/// Sees that the clearing stands as it was opened, and amends it again.
+/// The papers are those of Market B: their zones, seats, lists and orders of entry.
+fn expect_papers(rt: &impl Abort, alloc: Global, papers: &Papers) -> Result<(), AllocError> {
+    let files = export(alloc, papers)?;
+    let text = files_text(alloc, &files)?;
+    same(rt, &text.as_str(), &EXPORTED);
+    Ok(())
+}
+
+/// No amendment was accepted: the stamps are those of an opening.
+fn expect_no_stamps(rt: &impl Abort, clearing: &Clearing) {
+    same(rt, &clearing.accepted(), &Stamp::ZERO);
+    for number in 1..=3 {
+        let student = StudentNo::new(number).expect(rt, "a student");
+        same(rt, &clearing.stamp_of_student(student), &Stamp::ZERO);
+    }
+    for number in &[10, 20] {
+        let school = SchoolNo::new(*number).expect(rt, "a school");
+        same(rt, &clearing.stamp_of_school(school), &Stamp::ZERO);
+    }
+}
+
+/// The places and the log are this text.
+fn expect_standing(
+    rt: &impl Abort,
+    alloc: Global,
+    clearing: &Clearing,
+    want: &str,
+) -> Result<(), AllocError> {
+    let kept = standing(alloc, clearing)?;
+    same(rt, &kept.as_str(), &want);
+    Ok(())
+}
+
+/// The clearing is that of Market B's opening: papers, stamps, places, log, and count of proposals.
+fn expect_opening(rt: &impl Abort, alloc: Global, clearing: &Clearing) -> Result<(), AllocError> {
+    same(rt, &clearing.proposals_last(), &2);
+    expect_no_stamps(rt, clearing);
+    expect_papers(rt, alloc, clearing.papers())?;
+    expect_standing(rt, alloc, clearing, "1:10 2:20 |")
+}
+
+/// Sees that the clearing is as it was opened, and amends it again.
 fn amend_again(
     rt: &impl Abort,
     alloc: Global,
     clearing: &mut Clearing,
     record: &str,
 ) -> Result<(), AllocError> {
-    same(rt, &clearing.proposals_last(), &2);
-    let kept = standing(alloc, clearing)?;
-    same(rt, &kept.as_str(), &"1:10 2:20 |");
+    expect_opening(rt, alloc, clearing)?;
     assert!(rt; clearing.amend(amendment(rt, alloc, record)) == Ok(()));
     Ok(())
 }
@@ -95,7 +136,7 @@ pub fn amended(rt: &impl Abort, alloc: Global, record: &str) -> Result<String, A
 }
 
 #[test]
-fn amend(rt: HostRuntime) {
+fn each_growth_refused(rt: HostRuntime) {
     let want = "1:20 2:0 3:10 |(1,10)(2,20)(2,10)";
     expect(&rt, rt.alloc(), Call::Amend, want);
 }

@@ -24,7 +24,7 @@ pub const JOURNAL: &str = "1,enter,3,1,10,10\n2,withdraw,3\n";
 /// A log of three entries, of which the first is not valid under Market B.
 pub const LOG: &[u8] = b"1,10\n2,20\n2,10\n";
 
-/// The files of the papers after the newcomer has withdrawn, one after the other.
+/// The files of the papers of the opening, and again after the newcomer has withdrawn, one after the other.
 pub const EXPORTED: &str =
     "school,zone,seats\n10,1,1\n20,0,1\nstudent,zone,siblings\n1,0,20\n2,0,10\nstudent,choices\n1,10 20\n2,20 10\n";
 

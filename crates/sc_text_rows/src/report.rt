@@ -1,14 +1,15 @@
 //! The texts of a report, and of a reply and a log.
 mod devices;
 
+use crate::comparing::same;
 use crate::markets::{MARKET_A, MARKET_B, Rows};
 use sc_intake::read_log;
 use sc_markets::{amendment, clearing, seen};
-use sc_papers::{Refusal, SchoolNo, Stamp};
+use sc_papers::{Key, Refusal, SchoolNo, Seats, Stamp, StudentNo};
 use sc_repair::Clearing;
 use sc_report::{
-    Watched, assignment_text, cutoff_text, cutoffs, log_text, reason_text, reasons, reply_line,
-    report_text, write_report,
+    Cutoff, CutoffRow, Reason, ReasonRow, Watched, assignment_text, cutoff_text, cutoffs, log_text,
+    reason_text, reasons, reply_line, report_text, write_report,
 };
 use std::alloc::{AllocError, Global};
 use std::process::Abort;
@@ -32,15 +33,6 @@ enum View {
     Copied,
     /// How many schools a copy of the papers has, and how many students.
     Papers,
-    /// How many cutoffs there are, and how many reasons.
-    Counts,
-}
-
-/// How many cutoffs a clearing has, and how many reasons.
-fn counts(alloc: Global, clearing: &Clearing) -> Result<Vec<u8>, AllocError> {
-    let cutoffs = cutoffs(alloc, clearing)?.len();
-    let reasons = reasons(alloc, clearing)?.len();
-    Ok(format!(in alloc; "{cutoffs} cutoffs, {reasons} reasons")?.into_bytes())
 }
 
 /// The report, written into memory.
@@ -90,7 +82,6 @@ fn told(alloc: Global, view: View, clearing: &Clearing) -> Result<Vec<u8>, Alloc
         View::Log => standing_log(alloc, clearing),
         View::Copied => copied(alloc, clearing),
         View::Papers => papers_copied(alloc, clearing),
-        View::Counts => counts(alloc, clearing),
     }
 }
 
@@ -102,14 +93,14 @@ fn expect_told(rt: &impl Abort, alloc: Global, clearing: &Clearing, table: &[(Vi
     }
 }
 
-/// The amendments of these records are accepted, each with the stamp that its record has.
+/// The amendments of these records are accepted, each with the stamp that its record has, and each reply is the line of
+/// a first record that is accepted.
 fn amend(rt: &impl Abort, alloc: Global, clearing: &mut Clearing, records: &str) {
     for record in records.lines() {
         let amendment = amendment(alloc, record).expect(rt, "an amendment");
         let stamped = seen(clearing, amendment);
-        clearing
-            .amend(stamped)
-            .expect(rt, "an amendment that is allowed");
+        let reply = clearing.amend(stamped);
+        expect_reply(rt, alloc, 1, reply, b"1,ok\n");
     }
 }
 
@@ -132,12 +123,27 @@ fn expect(rt: &impl Abort, alloc: Global, rows: Rows, table: &[(View, &str)]) {
 }
 
 #[test]
+fn headers_alone(rt: HostRuntime) {
+    let table = [(View::Assignment, "student,school\n")];
+    expect(&rt, rt.alloc(), ("", "", ""), &table);
+}
+
+const TWO_STUDENTS: Rows = ("1,0,1\n", "1,0,\n2,0,\n", "1,1\n2,1\n");
+
+/// The report of one seat and two students.
+const OF_TWO_STUDENTS: (View, &str) = (
+    View::Report,
+    "student,school\n1,-\n2,1\nschool,seats,held,class,draw,student\n1,1,1,4,b819d2bd1aed8da0,2\nstudent,school,reason\n1,1,lottery\n",
+);
+
+#[test]
 fn one_seat_two_students(rt: HostRuntime) {
     expect(
         &rt,
         rt.alloc(),
-        ("1,0,1\n", "1,0,\n2,0,\n", "1,1\n2,1\n"),
+        TWO_STUDENTS,
         &[
+            OF_TWO_STUDENTS,
             (View::Assignment, "student,school\n1,-\n2,1\n"),
             (
                 View::Cutoffs,
@@ -146,6 +152,13 @@ fn one_seat_two_students(rt: HostRuntime) {
             (View::Reasons, "student,school,reason\n1,1,lottery\n"),
         ],
     );
+}
+
+#[test]
+fn withdraw_and_return(rt: HostRuntime) {
+    for records in &["withdraw,2\nenter,2,0,,1\n", "withdraw,1\nenter,1,0,,1\n"] {
+        expect_after(&rt, rt.alloc(), TWO_STUDENTS, records, &[OF_TWO_STUDENTS]);
+    }
 }
 
 #[test]
@@ -174,7 +187,6 @@ fn market_a_opening(rt: HostRuntime) {
             (View::Assignment, "student,school\n1,10\n2,20\n"),
             (View::Copied, "1:10 2:20 "),
             (View::Log, ""),
-            (View::Counts, "2 cutoffs, 0 reasons"),
         ],
     );
 }
@@ -203,9 +215,85 @@ fn market_a_and_a_seat_closed(rt: HostRuntime) {
             (View::Log, "1,10\n2,20\n2,10\n"),
             (View::Copied, "1:20 2:0 "),
             (View::Papers, "2 schools, 2 students"),
-            (View::Counts, "2 cutoffs, 3 reasons"),
         ],
     );
+}
+
+fn student(rt: &impl Abort, number: u32) -> StudentNo {
+    StudentNo::new(number).expect(rt, "a student")
+}
+
+fn school(rt: &impl Abort, number: u32) -> SchoolNo {
+    SchoolNo::new(number).expect(rt, "a school")
+}
+
+/// The row of a school with as many students as seats.
+fn cutoff_row(rt: &impl Abort, number: u32, seats: u32, cutoff: Cutoff) -> CutoffRow {
+    CutoffRow {
+        school: school(rt, number),
+        seats: Seats::new(seats).expect(rt, "seats"),
+        held: seats,
+        cutoff,
+    }
+}
+
+/// The cutoff of a school that admits this student last.
+fn full(rt: &impl Abort, class: u8, draw: u64, number: u32) -> Cutoff {
+    let student = student(rt, number);
+    let key = Key {
+        class,
+        draw,
+        student,
+    };
+    Cutoff::Full { key }
+}
+
+fn reason_row(rt: &impl Abort, number: u32, at: u32, reason: Reason) -> ReasonRow {
+    ReasonRow {
+        student: student(rt, number),
+        school: school(rt, at),
+        reason,
+    }
+}
+
+/// The cutoffs and the reasons of a clearing are these.
+fn expect_rows(
+    rt: &impl Abort,
+    alloc: Global,
+    clearing: &Clearing,
+    of_schools: &[CutoffRow],
+    of_students: &[ReasonRow],
+) {
+    let found = cutoffs(alloc, clearing).expect(rt, "memory");
+    same(rt, &found.as_slice(), &of_schools);
+    let found = reasons(alloc, clearing).expect(rt, "memory");
+    same(rt, &found.as_slice(), &of_students);
+}
+
+fn expect_rows_of_market_a(rt: &impl Abort, alloc: Global, clearing: &mut Clearing) {
+    let opening = [
+        cutoff_row(rt, 10, 1, full(rt, 4, 0xe56a5d4028bd8653, 1)),
+        cutoff_row(rt, 20, 1, full(rt, 4, 0xb819d2bd1aed8da0, 2)),
+    ];
+    expect_rows(rt, alloc, clearing, &opening, &[]);
+    amend(rt, alloc, clearing, "close,10,1\n");
+    let closed = [
+        cutoff_row(rt, 10, 0, Cutoff::Closed),
+        cutoff_row(rt, 20, 1, full(rt, 2, 0xe56a5d4028bd8653, 1)),
+    ];
+    let reasons = [
+        reason_row(rt, 1, 10, Reason::Seats),
+        reason_row(rt, 2, 20, Reason::Class),
+        reason_row(rt, 2, 10, Reason::Seats),
+    ];
+    expect_rows(rt, alloc, clearing, &closed, &reasons);
+}
+
+#[test]
+fn market_a_and_a_seat_closed_by_value(rt: HostRuntime) {
+    let (schools, roster, lists) = MARKET_A;
+    let mut clearing = clearing(rt.alloc(), schools, roster, lists).expect(&rt, "a clearing");
+    expect_rows_of_market_a(&rt, rt.alloc(), &mut clearing);
 }
 
 /// Market A with school 10 in the zone of a third student who has a sibling there, and with schools and
@@ -217,7 +305,7 @@ const MARKET_B_AND_A_NEWCOMER: Rows = (
 );
 
 #[test]
-fn a_newcomer_in_market_b(rt: HostRuntime) {
+fn market_b_and_a_newcomer_in_another_order(rt: HostRuntime) {
     expect(
         &rt,
         rt.alloc(),
@@ -243,7 +331,7 @@ fn expect_reply(
 
 #[test]
 fn reply_lines(rt: HostRuntime) {
-    let school = SchoolNo::new(77).expect(&rt, "a school");
+    let school = school(&rt, 77);
     let stamp = Stamp::new(1).expect(&rt, "a stamp");
     let alloc = rt.alloc();
     let unknown = Refusal::UnknownSchool { school };

@@ -155,6 +155,20 @@ fn the_whole_run(rt: HostRuntime) {
 }
 
 #[test]
+fn the_first_script(rt: HostRuntime) {
+    expect_runs(
+        &rt,
+        rt.alloc(),
+        MARKET_B_FILES,
+        &[(
+            999,
+            "0,enter,3,1,10,10\n0,enter,3,0,,10\n",
+            "1,ok\n2,refused,3,StudentExists\nstudent,school\n1,20\n2,-\n3,10\nschool,seats,held,class,draw,student\n10,1,1,1,ccef36a8c70d778b,3\n20,1,1,2,e56a5d4028bd8653,1\nstudent,school,reason\n1,10,class\n2,20,class\n2,10,class\n|1,enter,3,1,10,10\n|Ok(())",
+        )],
+    );
+}
+
+#[test]
 fn continuing_against_a_newcomer(rt: HostRuntime) {
     expect_runs(
         &rt,

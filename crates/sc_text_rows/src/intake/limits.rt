@@ -1,5 +1,5 @@
 //! The greatest inputs, and one past them.
-use super::{View, told};
+use super::{View, expect, told};
 use crate::comparing::expect_text;
 use sc_intake::MOST_BYTES;
 use std::alloc::{AllocError, Global};
@@ -22,7 +22,7 @@ fn expect_rows(rt: &impl Abort, alloc: Global, view: View, header: &str, count: 
 }
 
 #[test]
-fn at_most_5000_schools(rt: HostRuntime) {
+fn readers_limits_of_schools(rt: HostRuntime) {
     let header = "school,zone,seats\n";
     expect_rows(&rt, rt.alloc(), View::Schools, header, 5_000, "5000 rows");
     let more = "schools row 5002: TooLong";
@@ -30,14 +30,36 @@ fn at_most_5000_schools(rt: HostRuntime) {
 }
 
 #[test]
-fn at_most_200000_students(rt: HostRuntime) {
+fn readers_limits_of_students(rt: HostRuntime) {
     let header = "student,zone,siblings\n";
     let more = "roster row 200002: TooLong";
     expect_rows(&rt, rt.alloc(), View::Roster, header, 200_001, more);
 }
 
 #[test]
-fn at_most_64_mebibytes(rt: HostRuntime) {
+fn readers_limits_of_rows(rt: HostRuntime) {
+    let schools = [
+        ("10,0,1,\n", "schools row 2: Fields"),
+        ("10,x,10001\n", "schools row 2: Number"),
+        ("10,0,10001\n", "schools row 2: Range"),
+        ("0,0,1\n", "schools row 2: Range"),
+        ("1234567890,0,1\n", "schools row 2: Number"),
+    ];
+    let header = "school,zone,seats\n";
+    expect(&rt, rt.alloc(), View::Schools, header, &schools);
+    let lists = [("1,10\t20\n", "lists row 2: Number")];
+    expect(&rt, rt.alloc(), View::Lists, "student,choices\n", &lists);
+    let schools = [("school,zone,seats\n", "schools row 1: Header")];
+    expect(&rt, rt.alloc(), View::Schools, TWO_MARKS, &schools);
+    let script = [("0,withdraw,1\n", "script row 1: Header")];
+    expect(&rt, rt.alloc(), View::Signs, TWO_MARKS, &script);
+}
+
+/// Two byte order marks.
+const TWO_MARKS: &str = "\u{FEFF}\u{FEFF}";
+
+#[test]
+fn each_intake_fault_once_past_64_mebibytes(rt: HostRuntime) {
     assert!(rt; MOST_BYTES == 67_108_864);
     let newlines = vec![in rt.alloc(); b'\n'; 67_108_865].expect(&rt, "memory");
     let more = told(rt.alloc(), View::Log, newlines.as_slice());

@@ -130,7 +130,7 @@ fn untidy_spellings(rt: HostRuntime) {
 }
 
 #[test]
-fn each_fault_of_the_schools_once(rt: HostRuntime) {
+fn each_intake_fault_once_in_the_schools(rt: HostRuntime) {
     expect(
         &rt,
         rt.alloc(),
@@ -214,7 +214,7 @@ fn each_fault_of_the_schools_once(rt: HostRuntime) {
 }
 
 #[test]
-fn each_fault_of_the_students_once(rt: HostRuntime) {
+fn each_intake_fault_once_in_the_students(rt: HostRuntime) {
     expect(
         &rt,
         rt.alloc(),

@@ -82,7 +82,6 @@ fn scripts(rt: HostRuntime) {
             ("", ""),
             ("\u{FEFF}", ""),
             ("\n\r\n", ""),
-            ("\u{FEFF}\u{FEFF}0,withdraw,3\n", "script row 1: Header"),
             ("\u{FEFF}0,withdraw,3\r\nnonsense\r0,withdraw,4", "+-+"),
             (
                 "0,enter,3,1,10,10\nnonsense\n0,withdraw,99\n0,add,77,1\n0,withdraw,3\n",

@@ -10,8 +10,6 @@ use sc_runs::{fault_line, run_bundle, status_of};
 use std::alloc::{AllocError, Global};
 use std::process::Abort;
 
-const TWO_STUDENTS: Rows = ("1,0,1\n", "1,0,\n2,0,\n", "1,1\n2,1\n");
-
 const ZONE_FIRST: Rows = ("1,1,1\n", "1,1,\n2,0,\n", "1,1\n2,1\n");
 
 const CONTINUING_FIRST: Rows = ("1,1,1\n", "1,1,,\n2,0,,1\n", "1,1\n2,1\n");

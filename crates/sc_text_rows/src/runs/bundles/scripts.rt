@@ -1,7 +1,7 @@
 //! Scripts in a bundle.
 use super::{
-    CONTINUING_FIRST, FIVE_STUDENTS, FREE_SEATS, MARKET_B_CONTINUING, TWO_STUDENTS, ZONE_FIRST,
-    bundle, expect_row, told, written,
+    CONTINUING_FIRST, FIVE_STUDENTS, FREE_SEATS, MARKET_B_CONTINUING, ZONE_FIRST, bundle,
+    expect_row, told, written,
 };
 use crate::comparing::same;
 use crate::markets::{MARKET_A, MARKET_B, Rows};
@@ -48,12 +48,6 @@ const SCRIPTS: &[(&str, Rows, &str, &str)] = &[
         "1,ok\n2,ok\nstudent,school\n1,20\n2,-\n3,10\n0",
     ),
     (
-        "the first script",
-        MARKET_B,
-        "0,enter,3,1,10,10\n0,enter,3,0,,10\n",
-        "1,ok\n2,refused,3,StudentExists\nstudent,school\n1,20\n2,-\n3,10\n0",
-    ),
-    (
         "the whole run",
         MARKET_B,
         "0,enter,3,1,10,10\nnonsense\n0,withdraw,99\n0,add,77,1\n1,withdraw,3\n",
@@ -97,24 +91,12 @@ fn scripts(rt: HostRuntime) {
 }
 
 const WHOLE_REPORTS: &[(&str, Rows, &str, &str)] = &[
-    (
-        "the first script",
-        MARKET_B,
-        "0,enter,3,1,10,10\n0,enter,3,0,,10\n",
-        "1,ok\n2,refused,3,StudentExists\nstudent,school\n1,20\n2,-\n3,10\nschool,seats,held,class,draw,student\n10,1,1,1,ccef36a8c70d778b,3\n20,1,1,2,e56a5d4028bd8653,1\nstudent,school,reason\n1,10,class\n2,20,class\n2,10,class\n",
-    ),
     // As in `examples/two-desks.bundle`.
     (
         "two desks",
         MARKET_B,
         "0,rerank,1,20\n0,rerank,1,10\n1,rerank,1,10 20\n",
         "1,ok\n2,refused,12,Stale,1\n3,ok\nstudent,school\n1,10\n2,20\nschool,seats,held,class,draw,student\n10,1,1,4,e56a5d4028bd8653,1\n20,1,1,4,b819d2bd1aed8da0,2\nstudent,school,reason\n",
-    ),
-    (
-        "one seat, two students",
-        TWO_STUDENTS,
-        "",
-        "student,school\n1,-\n2,1\nschool,seats,held,class,draw,student\n1,1,1,4,b819d2bd1aed8da0,2\nstudent,school,reason\n1,1,lottery\n",
     ),
     (
         "zone before draw",
@@ -187,18 +169,6 @@ const WHOLE_REPORTS: &[(&str, Rows, &str, &str)] = &[
         FIVE_STUDENTS,
         "0,correct,1,0,\n",
         "1,ok\nstudent,school\n1,-\n2,10\n3,-\n4,20\n5,20\nschool,seats,held,class,draw,student\n10,1,1,4,b819d2bd1aed8da0,2\n20,2,2,4,7c5941da8d485751,4\nstudent,school,reason\n1,10,lottery\n1,20,lottery\n3,20,lottery\n",
-    ),
-    (
-        "withdraw and return: the one who holds",
-        TWO_STUDENTS,
-        "0,withdraw,2\n0,enter,2,0,,1\n",
-        "1,ok\n2,ok\nstudent,school\n1,-\n2,1\nschool,seats,held,class,draw,student\n1,1,1,4,b819d2bd1aed8da0,2\nstudent,school,reason\n1,1,lottery\n",
-    ),
-    (
-        "withdraw and return: the other one",
-        TWO_STUDENTS,
-        "0,withdraw,1\n0,enter,1,0,,1\n",
-        "1,ok\n2,ok\nstudent,school\n1,-\n2,1\nschool,seats,held,class,draw,student\n1,1,1,4,b819d2bd1aed8da0,2\nstudent,school,reason\n1,1,lottery\n",
     ),
     (
         "either order: a newcomer first",
