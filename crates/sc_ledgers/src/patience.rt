@@ -9,6 +9,9 @@ const QUESTION: usize = 4_500;
 /// What two settlings from scratch cost for each student, in labels.
 const STUDENT: usize = 10_000;
 
+/// So many questions may be put in any market: a small one is never settled from scratch for their sake.
+const FEW: usize = 1_000;
+
 /// One question for so many students is asked before anybody looks how long the ledgers are.
 const STUDENTS: usize = 64;
 
@@ -36,7 +39,8 @@ fn mean_len(ledgers: &[Ledger]) -> usize {
 fn most_asked(papers: &FlatPapers, ledgers: &[Ledger]) -> usize {
     let scratch = papers.students_len().saturating_mul(STUDENT);
     let question = mean_len(ledgers).saturating_add(QUESTION);
-    (scratch / question.max(1)).saturating_mul(papers.schools_len())
+    let most = (scratch / question.max(1)).max(FEW);
+    most.saturating_mul(papers.schools_len())
 }
 
 impl Patience {
