@@ -1,7 +1,7 @@
 #!/usr/bin/env python3
 """Times amendments by kind: the built program runs a script of one kind of amendment after an opening, and settles after each.
 
-    amendments.py [--students N,N,..] [--times N] [--folder FOLDER] [--program PATH]
+    amendments.py [--students N,N,..] [--times N] [--folder FOLDER] [--program PATH] [--large]
 
 Each market is made four times by generate.py: as one city whose students' lists connect all schools, as 200 districts that
 share none, whose students stand among each other in the roster, as these with the students of each district together, and as a
@@ -9,6 +9,10 @@ market that is one such district alone. The district alone gets as many amendmen
 seats run short as theirs do. A run with the script is timed beside one with an empty script; the difference of the least processor
 times, divided by the number of amendments, is what one costs. So the opening and the report do not count. The last column is the run
 with the empty script, whole. Each run is made `--times` times, and that of a district alone forty times as often.
+
+Then come markets of few large schools, where a ledger is long: ten and sixty schools of 80,000 students, and one school of 5,000 seats
+and 200,000 students, with each figure over a `match` of the same market; and twenty schools of a fortieth of the students each, which all
+list them alike, of which the seats of the first school change four times. `--large` times these alone.
 """
 import argparse
 import os
@@ -24,6 +28,8 @@ CHOICES = 12
 DISTRICTS = 200
 MOST_STUDENTS = 200_000  # A roster has no room for more, so that newcomers to so many would be refused.
 IN_DISTRICTS = 4_000  # Amendments behind a figure of districts: for each of them 20.
+LARGE = ((80_000, 10, 6), (80_000, 60, 6), (200_000, 1, 1))  # Students, schools, choices.
+ALIKE = (5_000, 10_000, 20_000, 40_000, 80_000)
 KINDS = ("newcomer", "withdrawal of the last", "withdrawal of a random one", "rerank", "correction", "a seat more", "a seat less")
 
 
@@ -50,6 +56,80 @@ def market(folder, students, districts, together=False):
 def rows(folder, name):
     with open(os.path.join(folder, f"{name}.csv")) as file:
         return [line.rstrip("\n").split(",") for line in file][1:]
+
+
+def write(folder, name, lines):
+    with open(os.path.join(folder, name), "w") as file:
+        file.write("".join(f"{line}\n" for line in lines))
+
+
+def large_market(folder, students, schools, choices):
+    """Students with rising numbers, and few schools, some of them far more wanted than others."""
+    target = os.path.join(folder, f"large-{students}-{schools}")
+    if not os.path.isdir(target):
+        numbers = os.path.join(folder, "rising")
+        write(folder, "rising", range(100_001, 100_001 + students))
+        seats = 5_000 if schools == 1 else students // schools
+        subprocess.run([sys.executable, os.path.join(HERE, "generate.py"), target, "--students", str(students), "--schools", str(schools), "--choices", str(choices),
+                        "--seats", str(seats), "--popularity", "1", "--student-numbers", numbers], check=True)
+    return target
+
+
+def alike_market(folder, students):
+    """Twenty schools, which all students list in one order, with seats for half of them."""
+    target = os.path.join(folder, f"alike-{students}")
+    if not os.path.isdir(target):
+        os.mkdir(target)
+        alike = " ".join(map(str, range(1, 21)))
+        write(target, "seed", ["5" * 64])
+        write(target, "schools.csv", ["school,zone,seats", *(f"{school},1,{students // 40}" for school in range(1, 21))])
+        write(target, "roster.csv", ["student,zone,siblings", *(f"{student},1," for student in range(1, students + 1))])
+        write(target, "lists.csv", ["student,choices", *(f"{student},{alike}" for student in range(1, students + 1))])
+    return target
+
+
+def opening_of(folder):
+    """The words that name the files of an opening."""
+    with open(os.path.join(folder, "seed")) as file:
+        opening = ["--seed", file.read().strip()]
+    for file in ("schools", "roster", "lists"):
+        opening += [f"--{file}", os.path.join(folder, f"{file}.csv")]
+    return opening
+
+
+def least(given, folder, lines):
+    """The least processor time of a run with this script."""
+    write(given.folder, "script", lines)
+    script, journal = os.path.join(given.folder, "script"), os.path.join(given.folder, "journal")
+    return min(processor([given.program, "run", *opening_of(folder), "--script", script, "--journal", journal, "--settle-each"]) for _ in range(given.times))
+
+
+def time_large(given):
+    """Amendments of few large schools, over a `match` of the same market."""
+    print("| students, schools | " + " | ".join(f"{kind}, ms (over a match)" for kind in KINDS) + " | a match, ms |")
+    print("|---" * (len(KINDS) + 2) + "|")
+    for students, schools, choices in LARGE:
+        folder = large_market(given.folder, students, schools, choices)
+        match = min(processor([given.program, "match", *opening_of(folder)]) for _ in range(given.times))
+        empty = least(given, folder, [])
+
+        def cost(kind):
+            if kind == "newcomer" and students == MOST_STUDENTS:
+                return "-"
+            one = max((least(given, folder, script_of(kind, folder, 1, 20)) - empty) / 20, 0)
+            return f"{one:.1f} ({one / match:.2f})"
+
+        print(f"| {students:,}, {schools} | " + " | ".join(map(cost, KINDS)) + f" | {match:.0f} |", flush=True)
+
+
+def time_alike(given):
+    """Four changes of the seats of the first school, where all lists are alike."""
+    print("| students, 20 schools, lists alike | an empty script, ms | four seat changes, ms | over it |")
+    print("|---|---|---|---|")
+    for students in ALIKE:
+        folder = alike_market(given.folder, students)
+        empty, changed = least(given, folder, []), least(given, folder, ["0,add,1,1", "1,close,1,1", "2,add,1,1", "3,close,1,1"])
+        print(f"| {students:,} | {empty:.0f} | {changed:.0f} | {changed / empty:.1f} |", flush=True)
 
 
 def script_of(kind, folder, districts, count):
@@ -96,14 +176,8 @@ def processor(words):
     return (used.ru_utime + used.ru_stime) * 1e3
 
 
-def main():
-    words = argparse.ArgumentParser(description=__doc__, formatter_class=argparse.RawDescriptionHelpFormatter)
-    words.add_argument("--students", default="20000,80000,200000")
-    words.add_argument("--times", type=int, default=3)
-    words.add_argument("--folder", default=os.path.join(tempfile.gettempdir(), "clearinghouse-amendments"))
-    words.add_argument("--program", default=PROGRAM)
-    given = words.parse_args()
-    os.makedirs(given.folder, exist_ok=True)
+def time_districts(given):
+    """Amendments of a city, of districts and of one of them."""
     print("| students | " + " | ".join(f"{kind}, ms" for kind in KINDS) + " | the whole opening, ms |")
     print("|---" * (len(KINDS) + 2) + "|")
     for students in map(int, given.students.split(",")):
@@ -136,6 +210,21 @@ def main():
                 return f"{max((run(script_of(kind, folder, districts, count)) - empty) / count, 0):.3f}"
 
             print(f"| {whole:,}, {name} | " + " | ".join(map(cost, KINDS)) + f" | {empty:.0f} |", flush=True)
+
+
+def main():
+    words = argparse.ArgumentParser(description=__doc__, formatter_class=argparse.RawDescriptionHelpFormatter)
+    words.add_argument("--students", default="20000,80000,200000")
+    words.add_argument("--times", type=int, default=3)
+    words.add_argument("--folder", default=os.path.join(tempfile.gettempdir(), "clearinghouse-amendments"))
+    words.add_argument("--program", default=PROGRAM)
+    words.add_argument("--large", action="store_true")
+    given = words.parse_args()
+    os.makedirs(given.folder, exist_ok=True)
+    if not given.large:
+        time_districts(given)
+    time_large(given)
+    time_alike(given)
 
 
 if __name__ == "__main__":

@@ -27,7 +27,8 @@ pub struct Outcome {
 
 /// Takes the turns of a region anew, at these positions, where they can differ: those of papers that an amendment changed, of which the
 /// segments are still those of the old ones. The labels of who is amended have been struck. The place is that of the school whose seats
-/// were changed, if there is one. The only error is want of memory: the ledgers are then to be given up.
+/// were changed, if there is one. An error is want of memory, or tells that the turns have cost twice what a settling from scratch costs
+/// and were not gone through to the end: the ledgers are then to be given up.
 ///
 /// The cost is a look at each turn's segment and at where it ended, with an offer for each refusal by a school that is looked at; for each
 /// turn that differs an offer for each proposal of its old and its new chain, and a look at the schools where somebody stands elsewhere;

@@ -77,7 +77,7 @@ fn take_next(
 }
 
 /// Takes the turns of a region in turn, from the rewind point on: their positions rise. Whatever is taken anew is noted. It ends with an
-/// error where a growth is refused, and where it has cost as much as a settling from scratch. All is to be given up then.
+/// error where a growth is refused, and where it has cost twice as much as a settling from scratch. All is to be given up then.
 pub(crate) fn sweep(
     alloc: Global,
     rows: &Rows<'_>,

@@ -6,13 +6,16 @@ use sc_papers::FlatPapers;
 /// What a question costs beside the labels that are counted for it, in labels.
 const QUESTION: usize = 4_500;
 
-/// What a settling from scratch costs for each student, in labels.
-const STUDENT: usize = 3_000;
+/// What two settlings from scratch cost for each student, in labels.
+const STUDENT: usize = 10_000;
+
+/// So many questions may be put in any market: a small one is never settled from scratch for their sake.
+const FEW: usize = 1_000;
 
 /// One question for so many students is asked before anybody looks how long the ledgers are.
 const STUDENTS: usize = 64;
 
-/// About how many questions a sweep has put to the schools, and how many it may: then it has cost as much as a settling from
+/// About how many questions a sweep has put to the schools, and how many it may: then it has cost twice as much as a settling from
 /// scratch. Questions are counted times the schools, so that a part of one counts too.
 ///
 /// No call here promises anything, and none has a clause: a sweep that is given up too soon, or too late, costs time and
@@ -32,11 +35,12 @@ fn mean_len(ledgers: &[Ledger]) -> usize {
     labels / ledgers.len().max(1)
 }
 
-/// How many questions cost as much as a settling from scratch, times the schools.
+/// How many questions cost twice as much as a settling from scratch, times the schools.
 fn most_asked(papers: &FlatPapers, ledgers: &[Ledger]) -> usize {
     let scratch = papers.students_len().saturating_mul(STUDENT);
     let question = mean_len(ledgers).saturating_add(QUESTION);
-    (scratch / question.max(1)).saturating_mul(papers.schools_len())
+    let most = (scratch / question.max(1)).max(FEW);
+    most.saturating_mul(papers.schools_len())
 }
 
 impl Patience {

@@ -238,6 +238,11 @@ impl Clearing {
     /// bytes for each student and one for each school. The new segments are made whole beside the old ones before they take their place,
     /// and papers that have changed by then go back where a growth is refused, so nothing is left half done.
     ///
+    /// A look at a ledger counts its labels. Where that has cost twice as much as a settling from scratch would, the papers are settled
+    /// from scratch, an offer for each proposal, for this amendment and the next sixteen; where there are more than 1,500 students for
+    /// each school they are at once. So none costs more than some settlings from scratch and an opening of the ledgers, and it is want
+    /// of memory only where that has none.
+    ///
     /// The first amendment after an opening, and the first after a refused growth, also opens the ledgers: a look at each rejection of the
     /// log, and a sort of the keys of each school. A refused amendment costs its `check` alone. The stamps take a look-up, and those behind
     /// a student who withdraws move up.

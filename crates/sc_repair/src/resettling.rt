@@ -16,8 +16,8 @@ use std::alloc::{AllocError, Global};
 
 /// Settles a region anew, of papers that an amendment changed, at the positions of its students from the rewind point on: their turns are
 /// taken anew where they can differ, whoever stands elsewhere then is given that place, and the new segments take the place of the old
-/// ones. The labels of who is amended have been struck. The only error is want of memory, which changes neither places nor segments; the
-/// ledgers are then to be given up.
+/// ones. The labels of who is amended have been struck. An error is one of `take_anew`, or want of memory, and changes neither places
+/// nor segments; the ledgers are then to be given up.
 ///
 /// The cost is that of `take_anew`, two look-ups by number for each student who stands elsewhere, and that of the new segments.
 pub(crate) fn resettle(

@@ -7,11 +7,20 @@ ghost use Rattle.sc_repair.specs.Changed.{ChangesInPlace};
 ghost use Rattle.sc_repair.specs.Standing.{IsAmended};
 
 use super::Settlement;
-use sc_papers::{Amendment, StudentNo};
+use sc_papers::{Amendment, FlatPapers, StudentNo};
 use std::alloc::{AllocError, Global};
 
 /// How many amendments are settled from scratch once a sweep was given up, before ledgers are opened again.
 const REST: u32 = 16;
+
+/// Where there are more students for each school, papers are settled from scratch after an amendment: a question to a ledger would
+/// count too many labels.
+const STUDENTS: usize = 1_500;
+
+/// Whether there are so many students for each school. No clause says anything of it: either way of settling is right.
+fn are_many(papers: &FlatPapers) -> bool {
+    papers.students_len() / STUDENTS > papers.schools_len()
+}
 
 /// An amendment once more. The only error is want of memory.
 fn copied(alloc: Global, amendment: &Amendment) -> Result<Amendment, AllocError>
@@ -59,6 +68,18 @@ fn copied(alloc: Global, amendment: &Amendment) -> Result<Amendment, AllocError>
 }
 
 impl Settlement {
+    /// Whether the next amendment is to be settled from scratch, since a sweep by the ledgers would take longer, or was given up not
+    /// long ago. No clause says anything of the answer.
+    fn takes_scratch(&mut self) -> bool
+        ensures { self.new ≡ self.old }
+    {
+        if self.rest > 0 {
+            self.rest -= 1;
+            return true;
+        }
+        are_many(&self.papers)
+    }
+
     /// Makes an amendment that nothing is said against, and settles its region anew from its rewind point on, as `Clearing::amend_allowed`
     /// says. What is changed is changed in place, growths first; where one is refused later, it is taken back.
     pub(crate) fn amend(&mut self, amendment: Amendment) -> Result<(), AllocError>
@@ -81,8 +102,7 @@ impl Settlement {
         requires { ChangesInPlace self.old.papers amendment }
         ensures { IsAmended result self.old amendment self.new }
     {
-        if self.rest > 0 {
-            self.rest -= 1;
+        if self.takes_scratch() {
             return self.change_afresh(amendment);
         }
         let again = copied(self.alloc, &amendment)?;
@@ -99,8 +119,7 @@ impl Settlement {
         requires { verdict self.old.papers (Withdraw student) ≡ None }
         ensures { IsAmended result self.old (Withdraw student) self.new }
     {
-        if self.rest > 0 {
-            self.rest -= 1;
+        if self.takes_scratch() {
             return self.withdraw_afresh(student);
         }
         if self.withdraw_by_ledgers(student).is_ok() {

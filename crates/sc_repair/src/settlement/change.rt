@@ -16,7 +16,7 @@ use std::alloc::AllocError;
 
 impl Settlement {
     /// Makes an amendment by which nobody enters or withdraws, in place, and takes the turns of its region anew from its rewind point on,
-    /// where they can differ. The only error is want of memory, which changes nothing: where a growth is refused after the papers have
+    /// where they can differ. An error is want of memory, or that of `take_anew`, and changes nothing: where it comes after the papers have
     /// changed, the amendment is taken back, and the ledgers are lost, which the next amendment opens again.
     pub(super) fn change_by_ledgers(&mut self, amendment: Amendment) -> Result<(), AllocError>
         requires { ChangesInPlace self.old.papers amendment }

@@ -17,8 +17,8 @@ use std::alloc::AllocError;
 
 impl Settlement {
     /// Lets a student withdraw, in place: the turns of their region are taken anew, where they can differ, as if the student did not enter
-    /// in theirs, and then the papers, the segments and the ledgers let the student go. The only error is want of memory, which changes
-    /// nothing; the ledgers are lost then, which the next amendment opens again.
+    /// in theirs, and then the papers, the segments and the ledgers let the student go. An error is want of memory, or that of
+    /// `take_anew`, and changes nothing; the ledgers are lost then, which the next amendment opens again.
     pub(super) fn withdraw_by_ledgers(&mut self, student: StudentNo) -> Result<(), AllocError>
         requires { verdict self.old.papers (Withdraw student) ≡ None }
         ensures { IsAmended result self.old (Withdraw student) self.new }
