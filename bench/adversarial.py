@@ -7,7 +7,8 @@ The random market is one of generate.py's, with N students, 700 schools and 12 c
 costs, times its bytes or its proposals over those of the random one, whichever is more; the last column is the processor time over that.
 The proposals are the rejections of the log and the students who are placed. The chosen numbers are made by chosen.rs, compiled with rustc -O. Then
 it runs a script of 64 MiB whose records are no amendments, and tells the memory over the script's length. Last it gives the calls inputs of 64 MiB that
-are made to take much memory, and tells how much they take. --large does these two alone.
+are made to take much memory, and tells how much they take, and so of markets of 200,000 students with 20 choices each: a full one, and one in which
+nearly all of them are refused by 20 schools of one seat. --large does these three alone.
 """
 import argparse
 import os
@@ -215,12 +216,15 @@ def large_inputs():
         ("match", "lists", "the same with a quoted field", (lists + '"1"', ",")),
         ("match", "lists", "the same before a line with one", (lists, ",", '\n"1",1\n')),
         ("match", "lists", "one list of 33 million numbers", (lists + "1,", "1 ", "1")),
+        ("match", "lists", "rows that are all `1,`", (lists, "1,\n")),
+        ("match", "lists", "rows that are all `1,1`", (lists, "1,1\n")),
         ("match", "roster", "33 million siblings", (roster + "1,0,", "1 ", "1")),
         ("match", "roster", "rows of 30 commas", (roster, "," * 30 + "\n")),
         ("run", "script", "one record of 67 million commas", ("", ",")),
         ("run", "script", "one list of 33 million numbers", ("0,enter,2,0,,", "1 ", "1")),
         ("check", "script", "33 million records `x`", ("", "x\n")),
         ("check", "lists", "rows that are all `1,1`", (lists, "1,1\n")),
+        ("check", "lists", "one list of 33 million numbers", (lists + "1,", "1 ", "1")),
         ("check", "schools", "33 million rows `x`", (schools, "x\n")),
         ("replay", "journal", "one line with a list of 33 million numbers", ("1,enter,2,0,,", "1 ", "1\n")),
         ("replay", "journal", "one line of 67 million commas", ("", ",", "\n")),
@@ -250,19 +254,72 @@ def memory_of_large(given):
         print(f"| `{call}`, {name} | {what} | {used.ru_utime + used.ru_stime:.1f} | {used.ru_maxrss / 1024:,.0f} |", flush=True)
 
 
+def one_seat_each(folder, count):
+    """20 schools of one seat, which everybody lists, each student beginning with another one."""
+    listed = list(range(1, 21))
+    write(folder, [(number, 0, 1) for number in listed], [(number, 0, "", listed[number % 20:] + listed[:number % 20]) for number in range(1, count + 1)])
+
+
+def full_market(folder, count):
+    """5,000 schools, with a seat for nearly everybody."""
+    words = ["--students", count, "--schools", 5_000, "--choices", 20, "--seats", count // 5_000 - 2]
+    subprocess.run([sys.executable, os.path.join(HERE, "generate.py"), folder, *map(str, words)], check=True)
+
+
+# The calls of a market, and whether FORMATS counts what they write.
+CALLS = {
+    "match": (["match"], True),
+    "match --table reasons": (["match", "--table", "reasons"], True),
+    "match --print-log": (["match", "--print-log"], True),
+    "explain": (["explain"], False),
+    "admissions": (["admissions"], False),
+    "summary": (["summary"], False),
+    "changes": (["changes", "--journal", "{journal}"], False),
+    "replay": (["replay", "--journal", "{journal}"], True),
+    "run": (["run", "--script", "{script}", "--journal", "{made}"], True),
+    "export": (["export", "--to", "{to}"], True),
+}
+
+
+def memory_of_calls(given, name, make):
+    """What each call takes of a market, with a journal of one line or a script of one record where it needs one."""
+    folder = os.path.join(given.folder, name.replace(" ", "-"))
+    if not os.path.isdir(folder):
+        make(folder, 200_000)
+    paths = {each: os.path.join(folder, each) for each in ("journal", "script", "made", "to")}
+    for each, line in (("journal", "1,add,1,1\n"), ("script", "0,add,1,1\n")):
+        with open(paths[each], "w") as file:
+            file.write(line)
+    for call, (words, is_counted) in CALLS.items():
+        subprocess.run(["rm", "-rf", paths["to"]], check=True)
+        os.mkdir(paths["to"])
+        spent, memory = run(given.program, folder, *(word.format(**paths) for word in words))
+        texts = os.path.getsize(os.path.join(folder, "out")) + sum(os.path.getsize(os.path.join(paths["to"], each)) for each in os.listdir(paths["to"]))
+        print(f"| {name} | `{call}` | {spent:.1f} | {memory:,.0f} | {size(folder) / 2**20:.1f} | {texts / 2**20:,.0f} {'counted' if is_counted else ''} |", flush=True)
+
+
+def memory_of_markets(given):
+    """What the calls take of markets that are as large as a market may be."""
+    print("| market | call | s | MiB | MiB of the inputs | MiB written |")
+    print("|---|---|---|---|---|---|")
+    memory_of_calls(given, "20 schools of one seat", one_seat_each)
+    memory_of_calls(given, "a full market", full_market)
+
+
 def main():
     given = argparse.ArgumentParser(description=__doc__, formatter_class=argparse.RawDescriptionHelpFormatter)
     given.add_argument("--students", type=int, default=80_000)
     given.add_argument("--times", type=int, default=3)
     given.add_argument("--folder", default=os.path.join(tempfile.gettempdir(), "clearinghouse-adversarial"))
     given.add_argument("--program", default=PROGRAM)
-    given.add_argument("--large", action="store_true", help="the script and the inputs that are made to take much memory, alone")
+    given.add_argument("--large", action="store_true", help="the script, the inputs that are made to take much memory and the largest markets, alone")
     given = given.parse_args()
     resource.setrlimit(resource.RLIMIT_CORE, (0, 0))
     os.makedirs(given.folder, exist_ok=True)
     if given.large:
         time_script(given)
         memory_of_large(given)
+        memory_of_markets(given)
         return
     time_markets(given)
     time_check(given)

@@ -1,5 +1,5 @@
 -- The lines of the schools' lists, one after the other.
-use Rattle.std.proofs.Common.{◌≡◌, sym, ◌∙◌, ap, inl, inr, ℕ, ◌+◌, ◌<◌, ◌≤◌, Bool, true, false, not, List, [], ◌∷◌, ◌++◌, append_assoc, length, get_or, take, All, IsPermutation, position, nat_eq, Option, None, Some, is_some, arith}
+use Rattle.std.proofs.Common.{◌≡◌, sym, ◌∙◌, ap, inl, inr, ℕ, ◌+◌, ◌<◌, ◌≤◌, Bool, true, false, not, List, [], ◌∷◌, ◌++◌, append_assoc, length, get_or, map, refl, take, All, IsPermutation, position, nat_eq, Option, None, Some, is_some, arith}
 use Rattle.std.specs.List.{enumerate_from}
 use Rattle.std.specs.List.Sorted.{IsSortedByKey}
 use Rattle.std.specs.Ordering.{nat_cmp}
@@ -16,11 +16,14 @@ use Rattle.sc_papers.proofs.Choices.{contains-at}
 use Rattle.sc_papers.proofs.Hands.{school-has_position}
 use Rattle.sc_papers.proofs.Positions.{among-school, position-among}
 use Rattle.sc_reasons.specs.Rising.{rising}
-use Rattle.sc_report.proofs.LineLemmas.{lines-more}
+use Rattle.sc_report.proofs.LineLemmas.{lines-map, lines-more}
 use Rattle.sc_reasons.proofs.RisingLemmas.{rising-by, rising-permutes}
 use Rattle.sc_seats.specs.Roll.{in_order}
 use Rattle.sc_notices.specs.Admissions.{class_list, keys_passing, waiting_list, waits}
-use Rattle.sc_notices.specs.AdmissionsText.{admission_lines, admissions_of, admissions_text, list_lines, place_line, school_lists}
+use Rattle.sc_notices.specs.AdmissionsText.{admission_lines, admissions_header, admissions_of, admissions_text, list_lines, place_line, school_lists}
+use Rattle.sc_notices.specs.KeyLists.{AreCandidates}
+use Rattle.sc_notices.specs.Telling.{Tells}
+use Rattle.sc_notices.specs.declared.parts.TextParts.TheVariants.{Listed}
 use Rattle.sc_notices.specs.declared.status.Status.{Status}
 use Rattle.sc_notices.specs.declared.status.Status.TheVariants.{Admitted, Waiting}
 
@@ -69,23 +72,26 @@ pub sorted-rising : (xs ys : List ℕ) → IsPermutation xs ys → IsSortedByKey
 sorted-rising xs ys moved sorted =
     sym (map-id ys) ∙ rising-by (λ x. x) xs ys moved (IsNonDecreasingBy-from_sort (λ x. x) ys sorted) ∙ ap rising (map-id xs)
 
--- a text that gained the lines of the schools by rising number is that of all of them
-pub admitted-all : (m : Market) (a b : Matching) (n : Market) (schools old text : List ℕ) → n ≡ m → b ≡ a → old ≡ [] → schools ≡ rising (schools_of n)
-    → text ≡ old ++ admission_lines n b schools → text ≡ admissions_text m a
-unfolding admissions_text
-admitted-all m a b n schools old text papers_is places_is old_is schools_is text_is =
-    text_is
-    ∙ (λ t. old_is t ++ admission_lines n b (schools_is t))
-    ∙ (λ t. admission_lines (papers_is t) (places_is t) (rising (schools_of (papers_is t))))
+-- the lists of schools are told, each school's as a part
+pub listed : (m : Market) (a b : Matching) (n : Market) (schools : List ℕ) (admitted waiting : List (List Key)) (text : List ℕ) → n ≡ m → b ≡ a → AreCandidates n b (students_of n) admitted waiting
+    → text ≡ admission_lines m a schools → Tells (Listed (record { papers = n; schools = schools; admitted = admitted; waiting = waiting })) text
+listed m a b n schools admitted waiting text papers_is places_is are text_is = (
+  map (school_lists n b) schools,
+  record { matching = b; candidates = are; each = refl },
+  text_is
+      ∙ sym (λ t. admission_lines (papers_is t) (places_is t) schools)
+      ∙ ap (λ lines. admissions_header ++ lines) (lines-map (λ (part : List ℕ). part) (school_lists n b) schools),
+)
 
--- and one that gained the lines of one school is that of the school
-pub admitted-one : (m : Market) (a b : Matching) (n : Market) (s : ℕ) (old text : List ℕ) → n ≡ m → b ≡ a → old ≡ [] → text ≡ old ++ admission_lines n b (s ∷ [])
-    → text ≡ admissions_of m a s
+-- the text of all schools has the lists of these, which are all
+pub all-listed : (m : Market) (a : Matching) (n : Market) (schools : List ℕ) → n ≡ m → schools ≡ rising (schools_of n) → admissions_text m a ≡ admission_lines m a schools
+unfolding admissions_text
+all-listed m a n schools papers_is schools_are = ap (admission_lines m a) (sym (schools_are ∙ ap (λ p. rising (schools_of p)) papers_is))
+
+-- and the text of one has the lists of that one
+pub one-listed : (m : Market) (a : Matching) (s : ℕ) (schools : List ℕ) → schools ≡ s ∷ [] → admissions_of m a s ≡ admission_lines m a schools
 unfolding admissions_of
-admitted-one m a b n s old text papers_is places_is old_is text_is =
-    text_is
-    ∙ (λ t. old_is t ++ admission_lines n b (s ∷ []))
-    ∙ (λ t. admission_lines (papers_is t) (places_is t) (s ∷ []))
+one-listed m a s schools schools_are = ap (admission_lines m a) (sym schools_are)
 
 -- a school without a position is not in the papers
 pub school-away : (m : Market) (s : ℕ) (found : Option ℕ) (absent : Bool) → found ≡ position (nat_eq s) (schools_of m) → is_some found ≡ not absent → absent ≡ true → is_school m s ≡ false

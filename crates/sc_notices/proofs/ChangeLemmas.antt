@@ -1,5 +1,5 @@
 -- The students of either papers, their places, and the lines of those whose place differs.
-use Rattle.std.proofs.Common.{◌≡◌, sym, ◌∙◌, ap, subst, inl, inr, ℕ, ◌+◌, ◌<◌, ◌≤◌, Bool, true, false, not, cond, List, [], ◌∷◌, ◌++◌, append_assoc, length, filter, get_or, take, All, Contains, IsPermutation, None, Some, Result, Ok, Err, slice_get, add-one, arith}
+use Rattle.std.proofs.Common.{◌≡◌, sym, ◌∙◌, ap, subst, inl, inr, ℕ, ◌+◌, ◌<◌, ◌≤◌, Bool, true, false, not, cond, List, [], ◌∷◌, ◌++◌, append_assoc, length, filter, get_or, map, refl, take, All, Contains, IsPermutation, None, Some, Result, Ok, Err, slice_get, add-one, arith}
 use Rattle.std.specs.List.Sorted.{IsBinarySearchResult, IsSortedByKey}
 use Rattle.std.specs.Ordering.{nat_cmp}
 use Rattle.std.specs.Prelude.{codes, flat_map}
@@ -13,13 +13,18 @@ use Rattle.std.proofs.lemmas.List.Sorted.{Contains-permutation, IsPermutation-ap
 use Rattle.sc_papers.specs.Market.{Market, is_student, students_of}
 use Rattle.sc_papers.specs.Matching.{Matching}
 use Rattle.sc_papers.proofs.Positions.{among-student, student-among}
+use Rattle.sc_repair.specs.Standing.{matching_of, Standing}
 use Rattle.sc_reasons.specs.Entrants.{numbers_of, AreRising, Holds}
 use Rattle.sc_reasons.specs.Rising.{rising}
 use Rattle.sc_reasons.specs.declared.entrants.Entrant.{Entrant}
 use Rattle.sc_reasons.proofs.RisingLemmas.{rising-orders, rising-permutes, rising-same}
+use Rattle.sc_report.proofs.LineLemmas.{lines-map}
 use Rattle.sc_tallies.proofs.Tallying.{take-one}
 use Rattle.sc_notices.specs.Changes.{changed, differ, place_in, students_of_either}
-use Rattle.sc_notices.specs.ChangesText.{change_line, changes_text}
+use Rattle.sc_notices.specs.ChangesText.{change_line, changes_header, changes_text}
+use Rattle.sc_notices.specs.Parts.{change_part}
+use Rattle.sc_notices.specs.Telling.{Tells}
+use Rattle.sc_notices.specs.declared.parts.TextParts.TheVariants.{Compared}
 use Rattle.sc_notices.proofs.AdmissionLemmas.{sorted-rising}
 
 -- a number that stands among the rising numbers of students is that of one
@@ -116,31 +121,32 @@ either-rising m n numbers all sorted are all_is moved up =
     ∙ ap rising (all_is ∙ ap (λ xs. xs ++ new) are)
     ∙ rising-same (students_of_either m n) (rising (students_of m) ++ new) (IsPermutation-append_left new (students_of m) (rising (students_of m)) (rising-permutes (students_of m)))
 
--- the lines of those who passed so far, and of one more if they pass
-pub lines-kept : (f : ℕ → List ℕ) (p : ℕ → Bool) (xs : List ℕ) (k x : ℕ) (old text new : List ℕ) → text ≡ old ++ flat_map f (filter p (take k xs)) → new ≡ cond (p x) (text ++ f x) text
-    → k < length xs → x ≡ get_or xs k x → new ≡ old ++ flat_map f (filter p (take (k + 1) xs))
-lines-kept f p xs k x old text new before grew low is =
-    let first = filter p (take k xs) in
-    let front : take (k + 1) xs ≡ take k xs ++ x ∷ [] = rw (add-one, take-suc xs k x low) (ap (λ y. take k xs ++ y ∷ []) (sym is)) in
-    let more : filter p (take (k + 1) xs) ≡ cond (p x) (first ++ x ∷ []) first = ap (filter p) front ∙ filter-more p (take k xs) x in
+-- the lines of those who pass, where the others have none
+lines-kept : (f : ℕ → List ℕ) (p : ℕ → Bool) (xs : List ℕ) → flat_map (λ i. cond (p i) (f i) []) xs ≡ flat_map f (filter p xs)
+lines-kept f p [] = refl
+lines-kept f p (x ∷ xs) =
+    let others = flat_map (λ i. cond (p i) (f i) []) xs in
     elim (cases_Bool (p x)) [
       | inl passes ↦
-          grew ∙ cond-true (p x) (text ++ f x) text passes ∙ ap (λ t. t ++ f x) before ∙ append_assoc old (flat_map f first) (f x)
-          ∙ ap (λ ys. old ++ ys)
-          (ap (λ ys. flat_map f first ++ ys) (sym (append-nil (f x))) ∙ sym (flat_map-append f first (x ∷ []))
-          ∙ ap (flat_map f) (sym (more ∙ cond-true (p x) (first ++ x ∷ []) first passes)))
+          ap (λ line. line ++ others) (cond-true (p x) (f x) [] passes) ∙ ap (λ more. f x ++ more) (lines-kept f p xs)
+          ∙ ap (flat_map f) (sym (cond-true (p x) (x ∷ filter p xs) (filter p xs) passes))
       | inr fails ↦
-          grew ∙ cond-false (p x) (text ++ f x) text fails ∙ before
-          ∙ ap (λ ys. old ++ flat_map f ys) (sym (more ∙ cond-false (p x) (first ++ x ∷ []) first fails))
+          ap (λ line. line ++ others) (cond-false (p x) (f x) [] fails) ∙ lines-kept f p xs
+          ∙ ap (flat_map f) (sym (cond-false (p x) (x ∷ filter p xs) (filter p xs) fails))
     ]
 
--- a text that gained the header and then the lines of those whose place differs is that of the changes
-pub changes-joined : (m : Market) (a : Matching) (n : Market) (b : Matching) (papers : Market) (students old start text : List ℕ) → papers ≡ n → students ≡ rising (students_of_either m papers)
-    → old ≡ [] → start ≡ old ++ codes "student,before,after\n"
-    → text ≡ start ++ flat_map (λ i. change_line i (place_in m a i) (place_in n b i)) (filter (λ i. differ (place_in m a i) (place_in n b i)) students)
-    → text ≡ changes_text m a n b
+-- whose place differs is told, each student's line as a part, or nothing
+pub compared : (m : Market) (a : Matching) (before : List Entrant) (standing : Standing) (papers : Market) (students : List ℕ) → AreRising m before → All (Holds a) before
+    → papers ≡ standing.papers → students ≡ rising (students_of_either m papers)
+    → Tells (Compared (record { students = students; before = before; standing = standing })) (changes_text m a standing.papers (matching_of standing))
 unfolding changed changes_text
-changes-joined m a n b papers students old start text papers_is students_is old_is start_is text_is =
-    let lines = λ (xs : List ℕ). flat_map (λ i. change_line i (place_in m a i) (place_in n b i)) (filter (λ i. differ (place_in m a i) (place_in n b i)) xs) in
-    text_is ∙ ap (λ t. t ++ lines students) (start_is ∙ ap (λ o. o ++ codes "student,before,after\n") old_is)
-    ∙ ap (λ xs. codes "student,before,after\n" ++ lines xs) (students_is ∙ ap (λ q. rising (students_of_either m q)) papers_is)
+compared m a before standing papers students are hold papers_is students_are =
+    let n = standing.papers in
+    let b = matching_of standing in
+    let line = λ (i : ℕ). change_line i (place_in m a i) (place_in n b i) in
+    let differs = λ (i : ℕ). differ (place_in m a i) (place_in n b i) in (
+      map (change_part m a n b) students,
+      record { papers = m; matching = a; rising = are; hold = hold; each = refl },
+      ap (λ xs. changes_header ++ flat_map line (filter differs xs)) (sym (students_are ∙ ap (λ q. rising (students_of_either m q)) papers_is))
+          ∙ ap (λ lines. changes_header ++ lines) (sym (lines-kept line differs students) ∙ lines-map (λ (part : List ℕ). part) (change_part m a n b) students),
+    )

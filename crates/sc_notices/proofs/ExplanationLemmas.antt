@@ -1,8 +1,9 @@
 -- The lines of a student's choices, one after the other.
-use Rattle.std.proofs.Common.{◌≡◌, refl, sym, ◌∙◌, ap, ℕ, ◌+◌, ◌<◌, Bool, true, false, ◌||◌, List, [], ◌∷◌, ◌++◌, length, get_or, take, add-one, append_assoc, arith, Option, Some, slice_get}
+use Rattle.std.proofs.Common.{◌≡◌, refl, sym, ◌∙◌, ap, subst, ℕ, ◌+◌, ◌<◌, Bool, true, false, ◌||◌, List, [], ◌∷◌, ◌++◌, length, get_or, map, take, All, add-one, append_assoc, arith, Option, Some, slice_get}
 use Rattle.std.specs.Prelude.{codes, decimal, flat_map}
 use Rattle.std.specs.List.{enumerate_from, list_any}
 use Rattle.std.proofs.Math.Seq.{take-suc}
+use Rattle.std.proofs.lemmas.List.{get_or-map, length-map}
 use Rattle.std.proofs.lemmas.List.FromFn.{get_or-enumerate_from, length-enumerate_from}
 use Rattle.std.proofs.lemmas.List.Folds.{list_any-append}
 use Rattle.std.proofs.lemmas.Option.{get_or_from_slice_get, slice_get_within}
@@ -11,14 +12,20 @@ use Rattle.sc_reasons.specs.Rising.{rising}
 use Rattle.sc_papers.specs.Matching.{Matching, has}
 use Rattle.sc_papers.specs.declared.key.Key.{Key}
 use Rattle.sc_papers.specs.Key.{key_of}
-use Rattle.sc_reasons.specs.Cutoff.{cutoff}
+use Rattle.sc_reasons.specs.Cutoff.{cutoff, rows_in_order}
+use Rattle.sc_reasons.specs.Entrants.{numbers_of, Holds}
 use Rattle.sc_reasons.specs.Reason.{reason_by}
 use Rattle.sc_reasons.specs.declared.cutoff.Cutoff.{Cutoff}
-use Rattle.sc_report.proofs.LineLemmas.{lines-more}
+use Rattle.sc_reasons.specs.declared.cutoff.CutoffRow.{CutoffRow}
+use Rattle.sc_reasons.specs.declared.entrants.Entrant.{Entrant}
+use Rattle.sc_report.proofs.LineLemmas.{lines-map, lines-more}
 use Rattle.sc_notices.specs.Explanation.{has_before, outcome, outcome_by}
 use Rattle.sc_notices.specs.Lottery.{cutoff_rank, lottery_rank}
-use Rattle.sc_notices.specs.ExplanationText.{choice_fields, choice_line, explanation_lines, explanation_of, explanation_text}
+use Rattle.sc_notices.specs.ExplanationText.{choice_fields, choice_line, explanation_header, explanation_lines, explanation_of, explanation_text, student_lines}
+use Rattle.sc_notices.specs.Parts.{AreExplained, ToExplain}
+use Rattle.sc_notices.specs.Telling.{Tells}
 use Rattle.sc_notices.specs.declared.outcome.Outcome.{Outcome}
+use Rattle.sc_notices.specs.declared.parts.TextParts.TheVariants.{Explained}
 
 -- the choices of a student, each with its rank
 abbrev pub ranked : Market → ℕ → List (ℕ × ℕ)
@@ -64,20 +71,36 @@ choices-more m a i k s key own cut last came given past number old text numbered
     zero-plus : (n : ℕ) → 0 + n ≡ n
     zero-plus n = omega arith
 
--- a text that gained the lines of the students by rising number is that of all of them
-pub explained : (m : Market) (a b : Matching) (n : Market) (students old text : List ℕ) → n ≡ m → b ≡ a → old ≡ [] → students ≡ rising (students_of n) → text ≡ old ++ explanation_lines n b students
-    → text ≡ explanation_text m a
-unfolding explanation_text
-explained m a b n students old text papers_is places_is old_is students_is text_is =
-    text_is
-    ∙ (λ t. old_is t ++ explanation_lines n b (students_is t))
-    ∙ (λ t. explanation_lines (papers_is t) (places_is t) (rising (students_of (papers_is t))))
+-- the lines of students are told, each student's as a part
+pub explained : (m : Market) (a b : Matching) (n : Market) (entrants : List Entrant) (rows : List CutoffRow) (text : List ℕ) → n ≡ m → b ≡ a → rows ≡ rows_in_order n b → All (Holds b) entrants
+    → text ≡ explanation_lines m a (numbers_of entrants) → Tells (Explained (record { papers = n; entrants = entrants; rows = rows })) text
+explained m a b n entrants rows text papers_is places_is rows_are hold text_is = (
+  map (student_lines n b) (numbers_of entrants),
+  record { matching = b; rows = rows_are; hold = hold; each = refl },
+  text_is
+      ∙ sym (λ t. explanation_lines (papers_is t) (places_is t) (numbers_of entrants))
+      ∙ ap (λ lines. explanation_header ++ lines) (lines-map (λ (part : List ℕ). part) (student_lines n b) (numbers_of entrants)),
+)
 
--- and one that gained the lines of one student is that of the student
-pub explained-one : (m : Market) (a b : Matching) (n : Market) (i : ℕ) (old text : List ℕ) → n ≡ m → b ≡ a → old ≡ [] → text ≡ old ++ explanation_lines n b (i ∷ [])
-    → text ≡ explanation_of m a i
+-- a part has the lines of its student, who has what is noted
+pub told-part : (told : ToExplain) (parts : List (List ℕ)) (at : ℕ) (one : Entrant) (are : AreExplained told parts) → at < length told.entrants → one ≡ get_or told.entrants at one
+    → Holds are.matching one × (student_lines told.papers are.matching one.student ≡ get_or parts at [])
+told-part told parts at one are low is =
+    let number = λ (e : Entrant). e.student in
+    let lines = student_lines told.papers are.matching in
+    let within : at < length (numbers_of told.entrants) = omega (arith, low, length-map told.entrants number) in (
+      subst (Holds are.matching) (sym is) (are.hold at one low),
+      sym (ap (λ p. get_or p at []) are.each
+          ∙ get_or-map lines (numbers_of told.entrants) at one.student [] within
+          ∙ ap lines (get_or-map number told.entrants at one one.student low ∙ ap number (sym is))),
+    )
+
+-- the text of all students has the lines of these, who are all
+pub all-explained : (m : Market) (a : Matching) (n : Market) (students : List ℕ) → n ≡ m → students ≡ rising (students_of n) → explanation_text m a ≡ explanation_lines m a students
+unfolding explanation_text
+all-explained m a n students papers_is students_are = ap (explanation_lines m a) (sym (students_are ∙ ap (λ p. rising (students_of p)) papers_is))
+
+-- and the text of one has the lines of that one
+pub one-explained : (m : Market) (a : Matching) (i : ℕ) (students : List ℕ) → students ≡ i ∷ [] → explanation_of m a i ≡ explanation_lines m a students
 unfolding explanation_of
-explained-one m a b n i old text papers_is places_is old_is text_is =
-    text_is
-    ∙ (λ t. old_is t ++ explanation_lines n b (i ∷ []))
-    ∙ (λ t. explanation_lines (papers_is t) (places_is t) (i ∷ []))
+one-explained m a i students students_are = ap (explanation_lines m a) (sym students_are)

@@ -31,9 +31,13 @@ list_lines status school keys = flat_map (λ place. place_line status school pla
 abbrev pub school_lists : Market → Matching → ℕ → List ℕ
 school_lists m a s = list_lines Admitted s (class_list m a s) ++ list_lines Waiting s (waiting_list m a s)
 
+-- the line above the schools' lines
+abbrev pub admissions_header : List ℕ
+admissions_header = codes "school,rank,student,class,draw,status\n"
+
 -- the header, and the lines of these schools
 abbrev pub admission_lines : Market → Matching → List ℕ → List ℕ
-admission_lines m a schools = codes "school,rank,student,class,draw,status\n" ++ flat_map (school_lists m a) schools
+admission_lines m a schools = admissions_header ++ flat_map (school_lists m a) schools
 
 -- the lines of all schools by rising number
 unfoldable pub admissions_text : Market → Matching → List ℕ

@@ -15,6 +15,10 @@ place_word (Some held) = place_text held
 abbrev pub change_line : ℕ → Option (Option ℕ) → Option (Option ℕ) → List ℕ
 change_line i before after = decimal i ++ codes "," ++ place_word before ++ codes "," ++ place_word after ++ codes "\n"
 
+-- the line above the students' lines
+abbrev pub changes_header : List ℕ
+changes_header = codes "student,before,after\n"
+
 -- the header, and the line of each student whose place differs
 unfoldable pub changes_text : Market → Matching → Market → Matching → List ℕ
-changes_text m a n b = codes "student,before,after\n" ++ flat_map (λ i. change_line i (place_in m a i) (place_in n b i)) (changed m a n b)
+changes_text m a n b = changes_header ++ flat_map (λ i. change_line i (place_in m a i) (place_in n b i)) (changed m a n b)

@@ -53,9 +53,13 @@ choice_line m a i rank s =
 abbrev pub student_lines : Market → Matching → ℕ → List ℕ
 student_lines m a i = flat_map (λ choice. choice_line m a i choice.0 choice.1) (enumerate_from 0 (choices_of m i))
 
+-- the line above the students' lines
+abbrev pub explanation_header : List ℕ
+explanation_header = codes "student,rank,school,class,draw,lottery_rank,cutoff,cutoff_draw,cutoff_student,cutoff_lottery_rank,outcome\n"
+
 -- the header, and the lines of these students
 abbrev pub explanation_lines : Market → Matching → List ℕ → List ℕ
-explanation_lines m a students = codes "student,rank,school,class,draw,lottery_rank,cutoff,cutoff_draw,cutoff_student,cutoff_lottery_rank,outcome\n" ++ flat_map (student_lines m a) students
+explanation_lines m a students = explanation_header ++ flat_map (student_lines m a) students
 
 -- the lines of all students by rising number
 unfoldable pub explanation_text : Market → Matching → List ℕ

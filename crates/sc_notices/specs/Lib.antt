@@ -10,3 +10,5 @@ pub mod AdmissionsText
 pub mod KeyLists
 pub mod Changes
 pub mod ChangesText
+pub mod Parts
+pub mod Telling

@@ -1,5 +1,5 @@
 //! Whose place differs between two times, as text.
-ghost use Rattle.std.specs.Prelude.{◌≡◌, ◌++◌, ◌∷◌, [], not, filter, flat_map, All, IfOk, OnOk, if◌then◌else◌};
+ghost use Rattle.std.specs.Prelude.{◌≡◌, ◌++◌, ◌∷◌, [], not, filter, All, IfOk, OnOk, if◌then◌else◌};
 ghost use Rattle.sc_papers.specs.Market.{Market, is_student, students_of};
 ghost use Rattle.sc_papers.specs.Matching.{Matching};
 ghost use Rattle.sc_repair.specs.Standing.{matching_of};
@@ -7,20 +7,23 @@ ghost use Rattle.sc_reasons.specs.Entrants.{numbers_of, AreRising, Holds};
 ghost use Rattle.sc_reasons.specs.Rising.{rising};
 ghost use Rattle.sc_notices.specs.Changes.{differ, place_in, students_of_either};
 ghost use Rattle.sc_notices.specs.ChangesText.{change_line, changes_text, place_word};
+ghost use Rattle.sc_notices.specs.Telling.{Tells};
 
 use crate::fields::push_field;
+use crate::parts::TextParts;
 use sc_decimal::push_number;
 use sc_papers::{FlatPapers, SchoolNo, StudentNo};
 use sc_repair::Clearing;
 use sc_report::{Entrant, rising_entrants};
 use sc_tallies::places_of;
 use std::alloc::{AllocError, Global};
+use std::marker::Model;
 
 /// The line above the students' lines.
-const HEADER: &[u8; 21] = b"student,before,after\n";
+pub(crate) const HEADER: &[u8] = b"student,before,after\n";
 
 /// The students of the papers as they stand, by rising number, each with what they have: as much of a time as
-/// `changes_text` looks at. The only error is want of memory, which is taken for each student. The cost is a sort of
+/// `change_parts` looks at. The only error is want of memory, which is taken for each student. The cost is a sort of
 /// their numbers.
 pub fn standing_places(alloc: Global, clearing: &Clearing) -> Result<Vec<Entrant>, AllocError>
     ensures students { IfOk result (λ places. AreRising clearing.now.standing.papers places.items) }
@@ -146,8 +149,8 @@ fn push_change(
     before: Option<Option<SchoolNo>>,
     after: Option<Option<SchoolNo>>,
 ) -> Result<(), AllocError>
-    ensures { OnOk result (text.new.items
-        ≡ (if differ before after then text.old.items ++ change_line student before after else text.old.items)) }
+    ensures { OnOk result (text.new.items ≡ text.old.items
+        ++ (if differ before after then change_line student before after else [])) }
 {
     if before != after {
         push_line(text, student, before, after)?;
@@ -155,53 +158,88 @@ fn push_change(
     Ok(())
 }
 
-/// Adds the lines of those of the students whose place differs, in their order.
-fn push_changes(
-    text: &mut Vec<u8>,
-    students: &[StudentNo],
-    numbers: &[StudentNo],
-    before: &[Entrant],
-    after: &Clearing,
-) -> Result<(), AllocError>
-    requires { numbers.now ≡ numbers_of before.now }
-    // By whichever papers and matching the places before are.
-    ensures { OnOk result ((m : Market) (a : Matching) → AreRising m before.now → All (Holds a) before.now
-        → text.new.items ≡ text.old.items ++ flat_map (λ i. change_line i (place_in m a i)
-        (place_in after.now.standing.papers (matching_of after.now.standing) i))
-        (filter (λ i. differ (place_in m a i)
-        (place_in after.now.standing.papers (matching_of after.now.standing) i)) students.now)) }
-{
-    for student in students {
-        let was = place_among(numbers, before, *student);
-        push_change(text, *student, was, after.place_of(*student))?;
+/// Whose place differs between a time and now: the places before, what stands now, and the students of either.
+pub struct Changes<'a> {
+    before: &'a [Entrant],
+    // Those of the places before.
+    numbers: Vec<StudentNo>,
+    after: &'a Clearing,
+    students: Vec<StudentNo>,
+}
+
+impl Drop for Changes<'_> {
+    fn drop(self) {
+        let Changes {
+            before: _,
+            numbers: _,
+            after: _,
+            students: _,
+        } = self;
     }
-    Ok(())
+}
+
+impl<'a> Model for Changes<'a> {
+    ghost use Rattle.std.specs.Prelude.{◌≡◌};
+    ghost use Rattle.sc_reasons.specs.Entrants.{numbers_of};
+    ghost use Rattle.sc_notices.specs.Parts.{ToCompare};
+
+    ghost Value = { ToCompare };
+
+    ghost view = { λ c. record {
+      students = c.students.items;
+      before = c.before.now;
+      standing = c.after.now.standing;
+    } };
+
+    ghost invariant = { λ c. c.numbers.items ≡ numbers_of c.before.now };
+}
+
+impl<'a> Changes<'a> {
+    ghost use Rattle.std.specs.Prelude.{◌≡◌, ◌++◌, ℕ, List, [], get_or, length, OnOk};
+    ghost use Rattle.sc_notices.specs.Parts.{AreCompared};
+
+    /// How many students there are.
+    pub(crate) fn count(&self) -> usize
+        ensures { result ≡ length self.now.students }
+    {
+        self.students.len()
+    }
+
+    /// Adds the line of a student whose place differs, by their place from 0, or nothing past the last.
+    pub(crate) fn push_part(&self, text: &mut Vec<u8>, at: usize) -> Result<(), AllocError>
+        ensures { (parts : List (List ℕ)) → AreCompared self.now parts
+            → OnOk result (text.new.items ≡ text.old.items ++ get_or parts at []) }
+    {
+        let Some(student) = self.students.get(at) else {
+            return Ok(());
+        };
+        let was = place_among(self.numbers.as_slice(), self.before, *student);
+        push_change(text, *student, was, self.after.place_of(*student))
+    }
 }
 
 /// Whose place differs between a time, of which the places are given, and now: a header, and by rising number a line for
 /// each student of either papers whose place is another one, with the place before and the place now. A place is a
-/// school's number, `-` for no school, or `absent` for a student who is not in the papers. The only error is want of
-/// memory, which is taken for each student and for the text. The cost is a sort of the students' numbers, and a search
-/// and a look-up for each.
-pub fn changes_text(
+/// school's number, `-` for no school, or `absent` for a student who is not in the papers. Each part has the line of one
+/// student, or nothing. The only error is want of memory, which is taken for each student. The cost is a sort of the
+/// students' numbers, and for each part a search and a look-up.
+pub fn change_parts<'a>(
     alloc: Global,
-    before: &[Entrant],
-    after: &Clearing,
-) -> Result<Vec<u8>, AllocError>
+    before: &'a [Entrant],
+    after: &'a Clearing,
+) -> Result<TextParts<'a>, AllocError>
     // By whichever papers and matching the places before are.
-    ensures { IfOk result (λ text. (m : Market) (a : Matching) → AreRising m before.now → All (Holds a) before.now
-        → text.items ≡ changes_text m a after.now.standing.papers (matching_of after.now.standing)) }
+    ensures { IfOk result (λ told. (m : Market) (a : Matching) → AreRising m before.now → All (Holds a) before.now
+        → Tells told (changes_text m a after.now.standing.papers (matching_of after.now.standing))) }
 {
     let numbers = numbers(alloc, before)?;
     let students = rising_of_either(alloc, numbers.as_slice(), after.papers())?;
-    let mut text = Vec::new(alloc);
-    text.extend_from_slice(HEADER)?;
-    push_changes(
-        &mut text,
-        students.as_slice(),
-        numbers.as_slice(),
-        before,
-        after,
-    )?;
-    Ok(text)
+    Ok(TextParts::Compared {
+        changes: Changes {
+            before,
+            numbers,
+            after,
+            students,
+        },
+    })
 }

@@ -1,19 +1,21 @@
 //! What came of each choice, as text.
-ghost use Rattle.std.specs.Prelude.{◌≡◌, ◌<◌, ◌++◌, ◌||◌, codes, decimal, is_some, length, nat_eq, position, All, IfOk, IfSome, OnOk, Some};
+ghost use Rattle.std.specs.Prelude.{◌≡◌, ◌<◌, ◌++◌, ◌||◌, codes, decimal, is_some, length, nat_eq, position, IfOk, IfSome, OnOk, Some};
 ghost use Rattle.sc_papers.specs.Market.{Market, is_student, schools_of};
 ghost use Rattle.sc_papers.specs.Matching.{Matching};
 ghost use Rattle.sc_repair.specs.Standing.{matching_of};
 ghost use Rattle.sc_reasons.specs.Cutoff.{cutoff, rows_in_order};
-ghost use Rattle.sc_reasons.specs.Entrants.{numbers_of, Holds, StandsAt};
+ghost use Rattle.sc_reasons.specs.Entrants.{Holds, StandsAt};
 ghost use Rattle.sc_reasons.specs.Reason.{reason_by};
 ghost use Rattle.sc_notices.specs.Explanation.{is_given, outcome_by};
-ghost use Rattle.sc_notices.specs.ExplanationText.{choice_fields, explanation_lines, explanation_of, explanation_text, cutoff_part, own_fields, own_part, student_lines};
+ghost use Rattle.sc_notices.specs.ExplanationText.{choice_fields, explanation_of, explanation_text, cutoff_part, own_fields, own_part, student_lines};
 ghost use Rattle.sc_notices.specs.Lottery.{lottery_rank};
+ghost use Rattle.sc_notices.specs.Telling.{Tells};
 ghost use Rattle.sc_notices.specs.Tickets.{IsLotteryOf};
 
 use crate::fields::push_field;
 use crate::lottery::{Lottery, ticket_at};
 use crate::outcome::{outcome_of, push_outcome};
+use crate::parts::TextParts;
 use sc_decimal::push_number;
 use sc_papers::{FlatPapers, Key, LONGEST_LIST, MOST_STUDENTS, Proposal, SchoolNo, StudentNo};
 use sc_repair::Clearing;
@@ -22,17 +24,11 @@ use sc_report::{
 };
 use sc_tallies::places_of;
 use std::alloc::{AllocError, Global};
+use std::marker::Model;
 
 /// The line above the choices' lines.
-const HEADER: &[u8; 106] =
+pub(crate) const HEADER: &[u8] =
     b"student,rank,school,class,draw,lottery_rank,cutoff,cutoff_draw,cutoff_student,cutoff_lottery_rank,outcome\n";
-
-/// The most bytes of a line: two students' numbers, a rank, a school, two classes, two draws, two ranks in the lottery, the
-/// longest word, the commas and a newline.
-const LONGEST_LINE: usize = 89;
-
-/// The most bytes of a student's number and a comma.
-const LONGEST_NUMBER: usize = 10;
 
 /// Adds the student's own class and draw.
 pub(crate) fn push_own(text: &mut Vec<u8>, key: Key) -> Result<(), AllocError>
@@ -117,13 +113,17 @@ fn cutoff_of(rows: &[CutoffRow], choice: &Proposal) -> Cutoff
     rows[choice.position].cutoff
 }
 
-/// Makes a text that of the student's number and a comma, in the place of what it held.
-fn set_number(text: &mut Vec<u8>, student: StudentNo) -> Result<(), AllocError>
-    ensures { OnOk result (text.new.items ≡ decimal student ++ codes ",") }
+/// The most bytes of a student's number and a comma.
+const LONGEST_NUMBER: usize = 10;
+
+/// A student's number and a comma, as text.
+fn number_text(alloc: Global, student: StudentNo) -> Result<Vec<u8>, AllocError>
+    ensures { IfOk result (λ text. text.items ≡ decimal student ++ codes ",") }
 {
-    text.clear();
-    push_number(text, u64::from(student.get()))?;
-    text.extend_from_slice(b",")
+    let mut text = Vec::with_capacity(alloc, LONGEST_NUMBER)?;
+    push_number(&mut text, u64::from(student.get()))?;
+    text.extend_from_slice(b",")?;
+    Ok(text)
 }
 
 /// Adds the lines of a student's choices, by the rows of all schools in order of entry; the student's number and the
@@ -167,82 +167,111 @@ fn push_choices(
     Ok(())
 }
 
-/// Adds the header and the lines of the students, in their order, by the rows of all schools in order of entry.
-fn push_explanations(
-    text: &mut Vec<u8>,
+/// What came of the choices of students: who they are, and what their lines are made from.
+pub struct Explanations<'a> {
     alloc: Global,
-    entrants: &[Entrant],
-    rows: &[CutoffRow],
-    papers: &FlatPapers,
-    lottery: &Lottery,
-) -> Result<(), AllocError>
-    requires rows { length rows.now ≡ length papers.now.schools }
-    requires lottery { IsLotteryOf papers.now rows.now lottery.now }
-    requires stand { All (StandsAt papers.now) entrants.now }
-    // By whichever matching the rows were made.
-    ensures { OnOk result ((a : Matching) → rows.now ≡ rows_in_order papers.now a → All (Holds a) entrants.now
-        → text.new.items ≡ text.old.items ++ explanation_lines papers.now a (numbers_of entrants.now)) }
-{
-    let mut number = Vec::with_capacity(alloc, LONGEST_NUMBER)?;
-    text.extend_from_slice(HEADER)?;
-    for entrant in entrants {
-        set_number(&mut number, entrant.student)?;
-        push_choices(text, number.as_slice(), rows, papers, lottery, *entrant)?;
-    }
-    Ok(())
+    papers: &'a FlatPapers,
+    entrants: Vec<Entrant>,
+    // Of all schools, in order of entry.
+    rows: Vec<CutoffRow>,
+    lottery: Lottery,
 }
 
-/// How many bytes the explanations of all students take at most.
-fn room_for_explanations(papers: &FlatPapers) -> usize {
-    let mut choices: usize = 0;
-    for position in 0..papers.students_len() {
-        choices = choices.saturating_add(papers.classed_choices_at(position).len());
+impl Drop for Explanations<'_> {
+    fn drop(self) {
+        let Explanations {
+            alloc: _,
+            papers: _,
+            entrants: _,
+            rows: _,
+            lottery: _,
+        } = self;
     }
-    choices
-        .saturating_mul(LONGEST_LINE)
-        .saturating_add(HEADER.len())
+}
+
+impl<'a> Model for Explanations<'a> {
+    ghost use Rattle.sc_notices.specs.Parts.{ToExplain};
+    ghost use Rattle.sc_notices.specs.Tickets.{CanExplain};
+
+    ghost Value = { ToExplain };
+
+    ghost view = { λ e. record { papers = e.papers.now; entrants = e.entrants.items; rows = e.rows.items } };
+
+    ghost invariant = { λ e. CanExplain e.papers.now e.entrants.items e.rows.items e.lottery };
+}
+
+impl<'a> Explanations<'a> {
+    ghost use Rattle.std.specs.Prelude.{◌≡◌, ◌++◌, ℕ, List, [], get_or, length, OnOk};
+    ghost use Rattle.sc_notices.specs.Parts.{AreExplained};
+
+    /// How many students there are.
+    pub(crate) fn count(&self) -> usize
+        ensures { result ≡ length self.now.entrants }
+    {
+        self.entrants.len()
+    }
+
+    /// Adds the lines of a student, by their place from 0, or nothing past the last.
+    pub(crate) fn push_part(&self, text: &mut Vec<u8>, at: usize) -> Result<(), AllocError>
+        ensures { (parts : List (List ℕ)) → AreExplained self.now parts
+            → OnOk result (text.new.items ≡ text.old.items ++ get_or parts at []) }
+    {
+        let Some(entrant) = self.entrants.get(at) else {
+            return Ok(());
+        };
+        let number = number_text(self.alloc, entrant.student)?;
+        push_choices(
+            text,
+            number.as_slice(),
+            self.rows.as_slice(),
+            self.papers,
+            &self.lottery,
+            *entrant,
+        )
+    }
 }
 
 /// What came of each choice of each student under the standing assignment: a header, and a line for each choice, the
 /// students by rising number and a student's choices best first. A line has the student, the choice's rank, from 1, the
 /// school, the student's own class and draw there and their rank in the lottery, the school's cutoff as the cutoff text has
 /// it and the rank of its student in the lottery, if it has one, and what came of it: `given`; the reason of the report; or
-/// `later` after the choice that was given. The only error is want of memory, which is taken for the text. The cost is one
-/// pass over the students for the cutoffs, sorts of the students' numbers and of their draws, a search among the draws for
-/// each student and each school, and one pass over the choices.
-pub fn explanation_text(alloc: Global, clearing: &Clearing) -> Result<Vec<u8>, AllocError>
-    ensures { IfOk result (λ text. text.items
-        ≡ explanation_text clearing.now.standing.papers (matching_of clearing.now.standing)) }
+/// `later` after the choice that was given. Each part has the lines of one student. The only error is want of memory. The
+/// cost is one pass over the students for the cutoffs, sorts of the students' numbers and of their draws, and a search among
+/// the draws for each school; and for each part a search among the draws and one pass over the choices.
+pub fn explanation_parts<'a>(
+    alloc: Global,
+    clearing: &'a Clearing,
+) -> Result<TextParts<'a>, AllocError>
+    ensures { IfOk result (λ told.
+        Tells told (explanation_text clearing.now.standing.papers (matching_of clearing.now.standing))) }
 {
     let papers: &FlatPapers = clearing.papers();
     let places = places_of(alloc, papers, clearing.places())?;
     let entrants = rising_entrants(alloc, papers, places.as_slice())?;
-    let in_order = rows_in_order(alloc, papers, places.as_slice())?;
-    let rows = in_order.as_slice();
-    let lottery = Lottery::new(alloc, papers, rows)?;
-    let mut text = Vec::with_capacity(alloc, room_for_explanations(papers))?;
-    push_explanations(
-        &mut text,
-        alloc,
-        entrants.as_slice(),
-        rows,
-        papers,
-        &lottery,
-    )?;
-    Ok(text)
+    let rows = rows_in_order(alloc, papers, places.as_slice())?;
+    let lottery = Lottery::new(alloc, papers, rows.as_slice())?;
+    Ok(TextParts::Explained {
+        explanations: Explanations {
+            alloc,
+            papers,
+            entrants,
+            rows,
+            lottery,
+        },
+    })
 }
 
-/// The lines of one student as in `explanation_text`, under the same header, or `None` where the student is not in the
+/// The lines of one student as in `explanation_parts`, under the same header, or `None` where the student is not in the
 /// papers. The only error is want of memory. The cost is one pass over the students for the cutoffs, a sort of their draws,
 /// and a search among these for each school.
-pub fn explanation_of(
+pub fn explanation_of<'a>(
     alloc: Global,
-    clearing: &Clearing,
+    clearing: &'a Clearing,
     student: StudentNo,
-) -> Result<Option<Vec<u8>>, AllocError>
+) -> Result<Option<TextParts<'a>>, AllocError>
     ensures known { IfOk result (λ found. is_some found ≡ is_student clearing.now.standing.papers student) }
-    ensures text { IfOk result (λ found. IfSome found (λ text. text.items
-        ≡ explanation_of clearing.now.standing.papers (matching_of clearing.now.standing) student)) }
+    ensures text { IfOk result (λ found. IfSome found (λ told. Tells told
+        (explanation_of clearing.now.standing.papers (matching_of clearing.now.standing) student))) }
 {
     let papers: &FlatPapers = clearing.papers();
     let Some(position) = papers.student_position(student) else {
@@ -250,10 +279,15 @@ pub fn explanation_of(
     };
     let places = places_of(alloc, papers, clearing.places())?;
     let entrant = entrant_at(papers, position, places[position]);
-    let in_order = rows_in_order(alloc, papers, places.as_slice())?;
-    let rows = in_order.as_slice();
-    let mut text = Vec::new(alloc);
-    let lottery = Lottery::new(alloc, papers, rows)?;
-    push_explanations(&mut text, alloc, &[entrant], rows, papers, &lottery)?;
-    Ok(Some(text))
+    let rows = rows_in_order(alloc, papers, places.as_slice())?;
+    let lottery = Lottery::new(alloc, papers, rows.as_slice())?;
+    Ok(Some(TextParts::Explained {
+        explanations: Explanations {
+            alloc,
+            papers,
+            entrants: Vec::from_slice(alloc, &[entrant])?,
+            rows,
+            lottery,
+        },
+    }))
 }

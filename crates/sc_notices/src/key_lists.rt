@@ -57,15 +57,6 @@ impl KeyLists {
     {
         self.lists[at].as_slice()
     }
-
-    /// How many keys there are, or the greatest number where they are more.
-    pub(crate) fn count(&self) -> usize {
-        let mut count: usize = 0;
-        for list in self.lists.as_slice() {
-            count = count.saturating_add(list.len());
-        }
-        count
-    }
 }
 
 /// These keys, best first. The only error is want of memory.

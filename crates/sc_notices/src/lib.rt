@@ -12,13 +12,15 @@ pub mod laws;
 mod listings;
 mod lottery;
 mod outcome;
+mod parts;
 mod ranks;
 mod status;
 mod summary;
 
-pub use admissions::{admissions_of, admissions_text};
-pub use changes::{changes_text, standing_places};
-pub use explanation::{explanation_of, explanation_text};
+pub use admissions::{Admissions, admission_parts, admissions_of};
+pub use changes::{Changes, change_parts, standing_places};
+pub use explanation::{Explanations, explanation_of, explanation_parts};
 pub use outcome::Outcome;
+pub use parts::TextParts;
 pub use status::Status;
 pub use summary::summary_text;

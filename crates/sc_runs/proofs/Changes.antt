@@ -1,14 +1,16 @@
 -- Journals cut after their first lines, and what telling whose place changed did.
-use Rattle.std.proofs.Common.{◌≡◌, sym, ◌∙◌, ap, subst, inr, ℕ, ◌+◌, ◌<◌, ◌==◌, List, [], ◌∷◌, ◌++◌, append_assoc, length, get_or, take, drop, Option, Some, Result, Ok, Err, slice_get, arith, codes}
+use Rattle.std.proofs.Common.{◌≡◌, sym, ◌∙◌, ap, subst, inl, inr, ℕ, ◌+◌, ◌<◌, ◌==◌, List, [], ◌∷◌, ◌++◌, append_assoc, length, get_or, take, drop, Option, Some, Result, Ok, Err, slice_get, arith, codes, All}
 use Rattle.std.proofs.lemmas.List.{take-append-drop}
 use Rattle.std.proofs.lemmas.Option.{slice_get-get_or}
 use Rattle.sc_papers.specs.Market.{Market}
+use Rattle.sc_papers.specs.Matching.{Matching}
 use Rattle.sc_stamps.specs.Verdict.{StampedPapers}
 use Rattle.sc_intake.specs.declared.fault.IntakeFault.{IntakeFault}
 use Rattle.sc_journal.specs.Journal.{journal_text, IsFirstFault}
 use Rattle.sc_journal.specs.declared.fault.JournalFault.{JournalFault}
 use Rattle.sc_journal.specs.declared.journal.Tail.{Tail}
 use Rattle.sc_tallies.proofs.Tallying.{take-one}
+use Rattle.sc_reasons.specs.Entrants.{AreRising, Holds}
 use Rattle.sc_reasons.specs.declared.entrants.Entrant.{Entrant}
 use Rattle.sc_notices.proofs.RankLemmas.{counted-more}
 use Rattle.sc_steps.specs.Inputs.{in_order, Texts, Turn, AreRead}
@@ -17,7 +19,8 @@ use Rattle.sc_steps.specs.declared.fault.RunFault.{RunFault}
 use Rattle.sc_steps.specs.declared.fault.RunFault.TheVariants.{Read, Intake, Journal, WriteOut, WriteJournal, OutOfMemory}
 use Rattle.sc_steps.proofs.Openings.{Keeps-refl}
 use Rattle.sc_runs.specs.Changing.{whole_lines, AreFirstLines, ChangesFiles, IsChange, TellsChange}
-use Rattle.sc_runs.specs.Standing.{IsStandingFault, WritesOfStanding}
+use Rattle.sc_runs.specs.Pieces.{WritesInPieces}
+use Rattle.sc_runs.specs.Standing.{IsStandingFault, Stands, WritesPiecesOfStanding}
 use Rattle.sc_runs.specs.Steps.{ArePlacesAfter, IsChangeFrom}
 use Rattle.sc_runs.specs.declared.changing.Changed.{Changed}
 use Rattle.sc_runs.proofs.Calls.{papers_in-texts, AreTexts}
@@ -64,25 +67,41 @@ fault-more reading journal lines rest _ cut is = absurd is
 
 -- where nothing stands, nothing is written
 pub told-fault : (Is : Market → List ℕ → Type 0) (reading : Result Market IntakeFault) (journal : List ℕ) (bytes : Option (List ℕ)) (fault : RunFault) → IsStandingFault reading journal fault
-    → WritesOfStanding Is reading journal bytes bytes (Err fault)
+    → WritesPiecesOfStanding Is reading journal bytes bytes (Err fault)
 told-fault Is reading journal bytes (Intake fault) is = (is, Keeps-refl bytes)
 told-fault Is reading journal bytes (Journal fault) is = (is, Keeps-refl bytes)
-told-fault Is reading journal bytes OutOfMemory is = Keeps-refl bytes
+told-fault Is reading journal bytes OutOfMemory is = inl (Keeps-refl bytes)
 told-fault Is reading journal bytes _ is = absurd is
 
 -- what was written of one kind was written of another that it is
 written-so : (Is Was : Market → List ℕ → Type 0) (reading : Result Market IntakeFault) (journal : List ℕ) (old new : Option (List ℕ)) → ((now : Market) (text : List ℕ) → Is now text → Was now text)
-    → (result : Result Tail RunFault) → WritesOfStanding Is reading journal old new result → WritesOfStanding Was reading journal old new result
+    → (result : Result Tail RunFault) → WritesPiecesOfStanding Is reading journal old new result → WritesPiecesOfStanding Was reading journal old new result
 written-so Is Was reading journal old new so (Ok tail) (now, stands, (text, is, appends)) = (now, stands, (text, so now text is, appends))
 written-so Is Was reading journal old new so (Err WriteOut) (now, tail, stands, (text, is, appends)) = (now, tail, stands, (text, so now text is, appends))
-written-so Is Was reading journal old new so (Err (Read source)) wrote = absurd wrote
-written-so Is Was reading journal old new so (Err WriteJournal) wrote = absurd wrote
-written-so Is Was reading journal old new so (Err _) wrote = wrote
+written-so Is Was reading journal old new so (Err OutOfMemory) (inl kept) = inl kept
+written-so Is Was reading journal old new so (Err OutOfMemory) (inr (now, tail, stands, (text, is, appends))) = inr (now, tail, stands, (text, so now text is, appends))
+written-so Is Was reading journal old new so (Err (Intake fault)) wrote = wrote
+written-so Is Was reading journal old new so (Err (Journal fault)) wrote = wrote
+written-so Is Was reading journal old new so (Err _) wrote = absurd wrote
+
+-- how the journal ends, where all was written
+abbrev pub with_tail : Tail → Result (Unit {0}) RunFault → Result Tail RunFault
+with_tail tail (Ok done) = Ok tail
+with_tail tail (Err fault) = Err fault
+
+-- papers stand, and a text of them was written in pieces
+pub told-standing : (Is : Market → List ℕ → Type 0) (reading : Result Market IntakeFault) (journal : List ℕ) (now : Market) (tail : Tail) (text : List ℕ) (old new : Option (List ℕ)) → Stands reading journal now tail → Is now text
+    → (result : Result (Unit {0}) RunFault) → WritesInPieces text old new result → WritesPiecesOfStanding Is reading journal old new (with_tail tail result)
+told-standing Is reading journal now tail text old new stands is (Ok done) wrote = (now, stands, (text, is, wrote))
+told-standing Is reading journal now tail text old new stands is (Err WriteOut) wrote = (now, tail, stands, (text, is, wrote))
+told-standing Is reading journal now tail text old new stands is (Err OutOfMemory) wrote = inr (now, tail, stands, (text, is, wrote))
+told-standing Is reading journal now tail text old new stands is (Err _) wrote = absurd wrote
 
 -- what changed from the places after the first lines is what changed since
 pub told-change : (since : ℕ) (reading : Result Market IntakeFault) (journal lines : List ℕ) (places : List Entrant) (old new : Option (List ℕ)) → AreFirstLines since journal lines → ArePlacesAfter reading lines places
-    → (result : Result Tail RunFault) → WritesOfStanding (IsChangeFrom places) reading journal old new result → WritesOfStanding (IsChange since reading journal) reading journal old new result
-told-change since reading journal lines places old new first are = written-so (IsChangeFrom places) (IsChange since reading journal) reading journal old new
+    → (result : Result Tail RunFault) → ((m : Market) (a : Matching) → AreRising m places → All (Holds a) places → WritesPiecesOfStanding (IsChangeFrom m a) reading journal old new result)
+    → WritesPiecesOfStanding (IsChange since reading journal) reading journal old new result
+told-change since reading journal lines places old new first are result wrote = written-so (IsChangeFrom are.papers are.matching) (IsChange since reading journal) reading journal old new
     (λ now text (later, optimal, told). record {
       lines = lines;
       first = first;
@@ -93,8 +112,8 @@ told-change since reading journal lines places old new first are = written-so (I
       later = later;
       earlier_optimal = are.optimal;
       later_optimal = optimal;
-      told = told are.papers are.matching are.students are.held;
-    })
+      told = told;
+    }) result (wrote are.papers are.matching are.students are.held)
 
 -- the files and the journal were read, and whose place changed was told
 pub ChangesFiles-read : (since : ℕ) (seed : List ℕ) (turns : List Turn) (texts : Texts) (journal schools roster lists given : List ℕ) (old new : Option (List ℕ)) (result : Result Changed RunFault)

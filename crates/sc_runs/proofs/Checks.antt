@@ -1,10 +1,7 @@
 -- Faults of files, written or not.
-use Rattle.std.proofs.Common.{◌≡◌, sym, ap, subst, ◌∙◌, inr, ℕ, ◌+◌, ◌<◌, Bool, true, false, ◌||◌, List, [], ◌∷◌, ◌++◌, length, take, Option, Result, Ok, Err, arith, append_assoc}
-use Rattle.std.specs.Prelude.{min}
+use Rattle.std.proofs.Common.{◌≡◌, sym, ap, subst, ◌∙◌, inr, ℕ, ◌+◌, ◌<◌, Bool, true, false, ◌||◌, List, [], ◌∷◌, ◌++◌, length, Option, Result, Ok, Err, arith, append_assoc}
 use Rattle.std.specs.Io.KnownBytes.{Appends, Keeps}
 use Rattle.std.proofs.KnownBytes.{Appends-trans}
-use Rattle.std.proofs.Math.Seq.{take-append-add}
-use Rattle.std.proofs.lemmas.List.{take-append-le, take_min}
 use Rattle.sc_intake.specs.declared.fault.IntakeFault.{IntakeFault}
 use Rattle.sc_checks.specs.Checks.{every_fault}
 use Rattle.sc_checks.specs.FaultLines.{faults_text, files_of, Files, Names}
@@ -18,6 +15,7 @@ use Rattle.sc_runs.specs.Checking.{checked_of, ChecksFiles, WritesFaults}
 use Rattle.sc_runs.specs.declared.checking.Checked.{Checked}
 use Rattle.sc_runs.specs.declared.checking.Checked.TheVariants.{Clean, Faulty}
 use Rattle.sc_runs.proofs.Calls.{AreTexts}
+use Rattle.sc_runs.proofs.InPieces.{prefix-after, prefix-more}
 
 -- the answer, after this one, where these faults are left
 abbrev pub checked_with : Checked → List IntakeFault → Checked
@@ -46,20 +44,6 @@ AreWrittenTo-more files all old left later now after checked piece so fewer line
   lines = so.lines ∙ ap (λ (t : List ℕ). so.text ++ t) (sym lines) ∙ sym (append_assoc so.text piece (faults_text files later));
   answer = left-some all left later checked so.answer fewer;
 }
-
--- a prefix of a text is one of a longer text
-prefix-more : (old now : Option (List ℕ)) (text more : List ℕ) → AppendsPrefix old now text → AppendsPrefix old now (text ++ more)
-prefix-more old now text more wrote = (
-  min wrote.0 (length text),
-  subst (Appends old now) (sym (take-append-le (min wrote.0 (length text)) text more (omega arith) ∙ take_min wrote.0 text)) wrote.1,
-)
-
--- and after another one
-prefix-after : (old now after : Option (List ℕ)) (text more : List ℕ) → Appends old now text → AppendsPrefix now after more → AppendsPrefix old after (text ++ more)
-prefix-after old now after text more first second = (
-  length text + second.0,
-  subst (Appends old after) (sym (take-append-add text more second.0)) (Appends-trans old now after text (take second.0 more) first second.1),
-)
 
 -- what was written so far is a prefix
 pub AreWrittenTo-prefix : (files : Files) (all : List IntakeFault) (old : Option (List ℕ)) (left : List IntakeFault) (now : Option (List ℕ)) (checked : Checked)

@@ -14,3 +14,4 @@ pub mod LastReport
 pub mod LineFirst
 pub mod Journaling
 pub mod DeskOrder
+pub mod InPieces

@@ -9,7 +9,7 @@ use Rattle.sc_notices.specs.ChangesText.{changes_text}
 use Rattle.sc_steps.specs.Inputs.{in_order, Texts, Turn, AreRead}
 use Rattle.sc_steps.specs.Opening.{opening_in, EndsUnread}
 use Rattle.sc_steps.specs.declared.fault.RunFault.{RunFault}
-use Rattle.sc_runs.specs.Standing.{Stands, WritesOfStanding}
+use Rattle.sc_runs.specs.Standing.{Stands, WritesPiecesOfStanding}
 use Rattle.sc_runs.specs.declared.changing.Changed.{Changed}
 use Rattle.sc_runs.specs.declared.changing.Changed.TheVariants.{Written, NoLine}
 
@@ -41,10 +41,10 @@ pub record IsChange (since : ℕ) (reading : Result Market IntakeFault) (journal
 -- whose place changed since a line is written of the papers that stand; where the journal has no such whole line, that
 -- is answered and nothing is written
 abbrev pub TellsChange : ℕ → Result Market IntakeFault → List ℕ → Option (List ℕ) → Option (List ℕ) → Result Changed RunFault → Type 0
-TellsChange since reading journal old new (Ok (Written tail)) = WritesOfStanding (IsChange since reading journal) reading journal old new (Ok tail)
+TellsChange since reading journal old new (Ok (Written tail)) = WritesPiecesOfStanding (IsChange since reading journal) reading journal old new (Ok tail)
 TellsChange since reading journal old new (Ok (NoLine line)) =
     (line ≡ since) × (whole_lines journal < since) × ((now : Market) × (tail : Tail) × Stands reading journal now tail) × Keeps old new
-TellsChange since reading journal old new (Err fault) = WritesOfStanding (IsChange since reading journal) reading journal old new (Err fault)
+TellsChange since reading journal old new (Err fault) = WritesPiecesOfStanding (IsChange since reading journal) reading journal old new (Err fault)
 
 -- what telling it of files did: reading them ended early, and nothing was written; or they were read, each whole, and
 -- this was done

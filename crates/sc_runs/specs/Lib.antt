@@ -7,6 +7,7 @@ pub mod Auditing
 pub mod Publishing
 pub mod Replaying
 pub mod Standing
+pub mod Pieces
 pub mod Notices
 pub mod Explaining
 pub mod Admitting

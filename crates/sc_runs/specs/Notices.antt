@@ -29,12 +29,13 @@ notice_text notice None m a = notice.of_all m a
 notice_text notice (Some subject) m a = notice.of_one m a subject
 
 -- a notice is written of papers under a matching, where their journal ends so, or a prefix of it where the writer failed;
--- where the one who is asked for is not in the papers, that is answered and nothing is written
+-- where the one who is asked for is not in the papers, that is answered and nothing is written; and at want of memory nothing
+-- is, or a prefix
 abbrev pub WritesNotice : {S : Type 0} → Notice S → Option S → Market → Matching → Tail → Option (List ℕ) → Option (List ℕ) → Result (Told S) RunFault → Type 0
 WritesNotice notice asked m a tail old new (Ok (Written ending)) = (ending ≡ tail) × (is_known notice asked m ≡ true) × Appends old new (notice_text notice asked m a)
 WritesNotice notice asked m a tail old new (Ok (Unknown subject)) = (asked ≡ Some subject) × (notice.has m subject ≡ false) × Keeps old new
 WritesNotice notice asked m a tail old new (Err WriteOut) = (is_known notice asked m ≡ true) × AppendsPrefix old new (notice_text notice asked m a)
-WritesNotice notice asked m a tail old new (Err OutOfMemory) = Keeps old new
+WritesNotice notice asked m a tail old new (Err OutOfMemory) = Keeps old new ⊎ ((is_known notice asked m ≡ true) × AppendsPrefix old new (notice_text notice asked m a))
 WritesNotice notice asked m a tail old new (Err _) = ⊥
 
 -- nothing stands after the journal over the papers that were read, and nothing is written; or a notice is written of the

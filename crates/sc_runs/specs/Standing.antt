@@ -52,6 +52,12 @@ WritesOfStanding Is reading journal old new (Err OutOfMemory) = Keeps old new
 WritesOfStanding Is reading journal old new (Err (Read source)) = ⊥
 WritesOfStanding Is reading journal old new (Err WriteJournal) = ⊥
 
+-- the same of a text that is written in pieces: at want of memory nothing was written, or a prefix
+abbrev pub WritesPiecesOfStanding : (Market → List ℕ → Type 0) → Result Market IntakeFault → List ℕ → Option (List ℕ) → Option (List ℕ) → Result Tail RunFault → Type 0
+WritesPiecesOfStanding Is reading journal old new (Ok tail) = WritesOfStanding Is reading journal old new (Ok tail)
+WritesPiecesOfStanding Is reading journal old new (Err OutOfMemory) = Keeps old new ⊎ WritesOfStanding Is reading journal old new (Err WriteOut)
+WritesPiecesOfStanding Is reading journal old new (Err fault) = WritesOfStanding Is reading journal old new (Err fault)
+
 -- what a call that tells of files did, given the turns of the opening and of the journal: reading them ended early,
 -- and nothing was written; or they were read, each whole, and it did this to the papers that were read, with the journal
 abbrev pub TellsFiles : {A : Type 0} → (Result Market IntakeFault → List ℕ → Option (List ℕ) → Option (List ℕ) → Result A RunFault → Type 0)

@@ -72,11 +72,10 @@ pub record ArePlacesAfter (reading : Result Market IntakeFault) (journal : List 
   pub students : AreRising papers places
   pub held : All (Holds matching) places
 
--- a text tells whose place differs between those that are given so and the papers now, under their student-optimal
+-- a text tells whose place differs between papers under a matching and the papers now, under their student-optimal
 -- stable matching
-abbrev pub IsChangeFrom : List Entrant → Market → List ℕ → Type 0
-IsChangeFrom places now text = (b : Matching) × IsStudentOptimal now b
-    × ((m : Market) (a : Matching) → AreRising m places → All (Holds a) places → text ≡ changes_text m a now b)
+abbrev pub IsChangeFrom : Market → Matching → Market → List ℕ → Type 0
+IsChangeFrom m a now text = (b : Matching) × IsStudentOptimal now b × (text ≡ changes_text m a now b)
 
 -- a verdict's line was written; a prefix of it where the writer failed, and nothing at want of memory
 abbrev pub WritesVerdictLine : Verdict → Option (List ℕ) → Option (List ℕ) → Result (Unit {0}) RunFault → Type 0

@@ -11,21 +11,22 @@ ghost use Rattle.sc_report.specs.Watched.{device_of};
 ghost use Rattle.sc_notices.specs.ChangesText.{changes_text};
 ghost use Rattle.sc_steps.specs.Failing.{is_output_fault, OutputFailsAsTold};
 ghost use Rattle.sc_steps.specs.Inputs.{turns_with, TakesWithin};
-ghost use Rattle.sc_steps.specs.Opening.{WritesText};
 ghost use Rattle.sc_steps.specs.Steps.{papers_held, OutputGets};
 ghost use Rattle.sc_runs.specs.Changing.{whole_lines, AreFirstLines, ChangesFiles, TellsChange};
-ghost use Rattle.sc_runs.specs.Standing.{IsStandingFault, WritesOfStanding};
+ghost use Rattle.sc_runs.specs.Pieces.{WritesInPieces};
+ghost use Rattle.sc_runs.specs.Standing.{IsStandingFault, WritesPiecesOfStanding};
 ghost use Rattle.sc_runs.specs.Steps.{ArePlacesAfter, IsChangeFrom};
 
+use crate::pieces::write_parts;
 use crate::standing::clearing_after;
 use sc_decimal::read_number;
 use sc_intake::Source;
 use sc_journal::Tail;
-use sc_notices::{changes_text, standing_places};
+use sc_notices::{change_parts, standing_places};
 use sc_papers::Seed;
 use sc_repair::Clearing;
 use sc_report::{Entrant, Watched};
-use sc_steps::{Opening, OpeningSlices, RunFault, read_inputs, write_text};
+use sc_steps::{Opening, OpeningSlices, RunFault, read_inputs};
 use std::alloc::Global;
 use std::io::{Read, Write};
 
@@ -82,20 +83,21 @@ fn places_after(
     }
 }
 
-/// Writes whose place differs between those before and the standing assignment, and flushes it.
+/// Writes whose place differs between those before and the standing assignment in pieces, and flushes it.
 fn write_changes<W: Write>(
     alloc: Global,
     before: &[Entrant],
     clearing: &Clearing,
     out: &mut Watched<W>,
 ) -> Result<(), RunFault>
-    ensures { OutputGets (WritesText (λ text. (m : Market) (a : Matching) → AreRising m before.now
-        → All (Holds a) before.now
-        → text ≡ changes_text m a clearing.now.standing.papers (matching_of clearing.now.standing)))
+    // By whichever papers and matching the places before are.
+    ensures { OutputGets (λ old new result. (m : Market) (a : Matching) → AreRising m before.now
+        → All (Holds a) before.now → WritesInPieces
+        (changes_text m a clearing.now.standing.papers (matching_of clearing.now.standing)) old new result)
         W.contents out.old out.new result }
 {
-    match changes_text(alloc, before, clearing) {
-        Ok(text) => write_text(text.as_slice(), out),
+    match change_parts(alloc, before, clearing) {
+        Ok(told) => write_parts(alloc, &told, out),
         Err(_) => Err(RunFault::OutOfMemory),
     }
 }
@@ -110,12 +112,17 @@ fn change_from<W: Write>(
     before: &[Entrant],
     out: &mut Watched<W>,
 ) -> Result<Tail, RunFault>
-    ensures { OutputGets (WritesOfStanding (IsChangeFrom before.now) (papers_held seed.now texts.entry) journal.now)
+    // By whichever papers and matching the places before are.
+    ensures { OutputGets (λ old new result. (m : Market) (a : Matching) → AreRising m before.now
+        → All (Holds a) before.now → WritesPiecesOfStanding
+        (IsChangeFrom m a) (papers_held seed.now texts.entry) journal.now old new result)
         W.contents out.old out.new result }
 {
     let (clearing, tail) = clearing_after(alloc, seed, texts, journal)?;
-    write_changes(alloc, before, &clearing, out)?;
-    Ok(tail)
+    match write_changes(alloc, before, &clearing, out) {
+        Ok(()) => Ok(tail),
+        Err(fault) => Err(fault),
+    }
 }
 
 /// Writes whose place changed after the first lines of a journal over the papers that the texts hold.
@@ -186,9 +193,9 @@ fn change_texts<W: Write>(
 ///
 /// Nothing is written before the inputs are known to be good. An error is the first fault of the inputs, each of
 /// which is read whole before any is looked into, or else the first faulty line of the journal with its first cause;
-/// that an input or the output failed; or want of memory, after which nothing was written. After a fault of the
-/// output a prefix of the text was. Where reading an input ends early, those after it are not touched; of none more
-/// than one byte past 64 MiB is taken.
+/// that an input or the output failed; or want of memory. After a fault of the output, and after want of memory, a prefix
+/// of the text was written, which may be nothing. Where reading an input ends early, those after it are not touched; of none
+/// more than one byte past 64 MiB is taken.
 ///
 /// The cost is two openings, each with its amendments, and a sort of the students' numbers for either. What is kept of
 /// the first beside the second is 16 bytes for each student.

@@ -10,7 +10,7 @@ ghost use Rattle.sc_runs.specs.Standing.{journal_turns, AllTakeWithin, TellsFile
 use crate::notices::{Subject, Told, notice_files};
 use sc_decimal::read_number;
 use sc_journal::Tail;
-use sc_notices::{explanation_of, explanation_text};
+use sc_notices::{TextParts, explanation_of, explanation_parts};
 use sc_papers::{Seed, StudentNo};
 use sc_repair::Clearing;
 use sc_report::Watched;
@@ -41,11 +41,15 @@ pub fn read_student(text: &[u8]) -> Option<StudentNo>
 impl Subject for StudentNo {
     ghost notice = { explanations };
 
-    fn told_of_all(alloc: Global, clearing: &Clearing) -> Result<Vec<u8>, AllocError> {
-        explanation_text(alloc, clearing)
+    fn told_of_all<'a>(alloc: Global, clearing: &'a Clearing) -> Result<TextParts<'a>, AllocError> {
+        explanation_parts(alloc, clearing)
     }
 
-    fn told_of(self, alloc: Global, clearing: &Clearing) -> Result<Option<Vec<u8>>, AllocError> {
+    fn told_of<'a>(
+        self,
+        alloc: Global,
+        clearing: &'a Clearing,
+    ) -> Result<Option<TextParts<'a>>, AllocError> {
         explanation_of(alloc, clearing, self)
     }
 }
@@ -58,9 +62,9 @@ impl Subject for StudentNo {
 ///
 /// Nothing is written before the inputs are known to be good. An error is the first fault of the inputs, each of
 /// which is read whole before any is looked into, or else the first faulty line of the journal with its first cause;
-/// that an input or the output failed; or want of memory, after which nothing was written. After a fault of the
-/// output a prefix of the text was. Where reading an input ends early, those after it are not touched; of none more
-/// than one byte past 64 MiB is taken.
+/// that an input or the output failed; or want of memory. After a fault of the output, and after want of memory, a prefix
+/// of the text was written, which may be nothing. Where reading an input ends early, those after it are not touched; of none
+/// more than one byte past 64 MiB is taken.
 pub fn explain_files<R: Read, W: Write>(
     alloc: Global,
     seed: &Seed,

@@ -15,6 +15,7 @@ mod exporting;
 pub mod laws;
 mod markers;
 mod notices;
+mod pieces;
 mod publishing;
 mod replaying;
 mod running;

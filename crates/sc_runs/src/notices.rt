@@ -6,16 +6,19 @@ ghost use Rattle.sc_papers.specs.Matching.{Matching};
 ghost use Rattle.sc_repair.specs.Standing.{matching_of};
 ghost use Rattle.sc_steps.specs.Inputs.{opening_turns};
 ghost use Rattle.sc_steps.specs.Steps.{papers_held, OutputGets};
+ghost use Rattle.sc_notices.specs.Telling.{Tells};
 ghost use Rattle.sc_runs.specs.Notices.{is_known, notice_text, Notice, TellsStanding, WritesNotice};
 ghost use Rattle.sc_runs.specs.Standing.{journal_turns, AllTakeWithin, TellsFiles};
 
+use crate::pieces::write_parts;
 use crate::standing::clearing_after;
 use sc_intake::Source;
 use sc_journal::Tail;
+use sc_notices::TextParts;
 use sc_papers::Seed;
 use sc_repair::Clearing;
 use sc_report::Watched;
-use sc_steps::{Opening, OpeningSlices, RunFault, read_opening_and, write_text};
+use sc_steps::{Opening, OpeningSlices, RunFault, read_opening_and};
 use std::alloc::{AllocError, Global};
 use std::io::{Read, Write};
 
@@ -25,16 +28,20 @@ pub trait Subject: Copy {
     ghost notice: { Notice Self };
 
     /// What is told of all. The only error is want of memory.
-    fn told_of_all(alloc: Global, clearing: &Clearing) -> Result<Vec<u8>, AllocError>
-        ensures { IfOk result (λ text. text.items
-            ≡ notice_text notice None clearing.now.standing.papers (matching_of clearing.now.standing)) };
+    fn told_of_all<'a>(alloc: Global, clearing: &'a Clearing) -> Result<TextParts<'a>, AllocError>
+        ensures { IfOk result (λ told. Tells told
+            (notice_text notice None clearing.now.standing.papers (matching_of clearing.now.standing))) };
 
     /// What is told of this one, or `None` where they are not in the papers. The only error is want of memory.
-    fn told_of(self, alloc: Global, clearing: &Clearing) -> Result<Option<Vec<u8>>, AllocError>
+    fn told_of<'a>(
+        self,
+        alloc: Global,
+        clearing: &'a Clearing,
+    ) -> Result<Option<TextParts<'a>>, AllocError>
         ensures known { IfOk result (λ found. is_some found
             ≡ is_known notice (Some self) clearing.now.standing.papers) }
-        ensures text { IfOk result (λ found. IfSome found (λ text. text.items
-            ≡ notice_text notice (Some self) clearing.now.standing.papers (matching_of clearing.now.standing))) };
+        ensures text { IfOk result (λ found. IfSome found (λ told. Tells told
+            (notice_text notice (Some self) clearing.now.standing.papers (matching_of clearing.now.standing)))) };
 }
 
 /// What asking for a notice came to.
@@ -45,18 +52,19 @@ pub enum Told<S> {
     Unknown { subject: S },
 }
 
-/// Writes a notice, and flushes it.
+/// Writes a notice in pieces, and flushes it.
 fn write_notice<S: Subject, W: Write>(
-    text: &[u8],
+    alloc: Global,
+    told: &TextParts<'_>,
     tail: Tail,
     out: &mut Watched<W>,
 ) -> Result<Told<S>, RunFault>
     // Of whichever papers and matching it is.
     ensures { OutputGets (λ old new result. (asked : Option S) (m : Market) (a : Matching)
-        → is_known S.notice asked m ≡ true → text.now ≡ notice_text S.notice asked m a
+        → is_known S.notice asked m ≡ true → Tells told.now (notice_text S.notice asked m a)
         → WritesNotice S.notice asked m a tail old new result) W.contents out.old out.new result }
 {
-    match write_text(text, out) {
+    match write_parts(alloc, told, out) {
         Ok(()) => Ok(Told::Written { tail }),
         Err(fault) => Err(fault),
     }
@@ -73,7 +81,7 @@ fn notice_all<S: Subject, W: Write>(
         (matching_of clearing.now.standing) tail) W.contents out.old out.new result }
 {
     match S::told_of_all(alloc, clearing) {
-        Ok(text) => write_notice(text.as_slice(), tail, out),
+        Ok(told) => write_notice(alloc, &told, tail, out),
         Err(_) => Err(RunFault::OutOfMemory),
     }
 }
@@ -90,7 +98,7 @@ fn notice_one<S: Subject, W: Write>(
         (matching_of clearing.now.standing) tail) W.contents out.old out.new result }
 {
     match subject.told_of(alloc, clearing) {
-        Ok(Some(text)) => write_notice(text.as_slice(), tail, out),
+        Ok(Some(told)) => write_notice(alloc, &told, tail, out),
         Ok(None) => Ok(Told::Unknown { subject }),
         Err(_) => Err(RunFault::OutOfMemory),
     }

@@ -6,6 +6,7 @@ mod checks;
 mod faults;
 mod flushes;
 mod notices;
+mod pieces;
 mod published;
 mod sections;
 
