@@ -9,7 +9,7 @@ use sc_words::OpeningWords;
 use std::fs::{OpenOptions, remove_file};
 use std::io;
 use std::io::Write;
-use std::path::Path;
+use std::path::{Path, PathBuf};
 use std::rt::Files;
 
 /// Where a file was made, so that it can be taken away again.
@@ -19,9 +19,10 @@ pub trait Place {
 }
 
 /// The place of a file among those of the system.
+#[derive(Drop)]
 struct FilePlace<'a, R> {
     rt: &'a R,
-    path: &'a Path,
+    path: &'a PathBuf,
 }
 
 impl<'a, R: Files> Place for FilePlace<'a, R> {
