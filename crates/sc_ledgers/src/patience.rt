@@ -51,7 +51,16 @@ impl Patience {
         Patience { asked: 0, most }
     }
 
+    /// Whether there were too many, now that the ledgers are looked at.
+    fn is_past(&mut self, papers: &FlatPapers, ledgers: &[Ledger]) -> bool {
+        self.most = most_asked(papers, ledgers);
+        self.asked > self.most
+    }
+
     /// So many questions more, times the schools. Whether there were too many.
+    ///
+    /// It is taken into the loop over the turns, most of which ask nothing.
+    #[inline(always)]
     pub(crate) fn is_over(
         &mut self,
         asked: usize,
@@ -59,10 +68,6 @@ impl Patience {
         ledgers: &[Ledger],
     ) -> bool {
         self.asked = self.asked.saturating_add(asked);
-        if self.asked <= self.most {
-            return false;
-        }
-        self.most = most_asked(papers, ledgers);
-        self.asked > self.most
+        self.asked > self.most && self.is_past(papers, ledgers)
     }
 }
