@@ -59,7 +59,10 @@ class Trials:
         options.setdefault("stdout", subprocess.PIPE)
         options.setdefault("stderr", subprocess.PIPE)
         options.setdefault("timeout", 120)
-        return subprocess.run([self.program, *words], input=given, cwd=self.folder, **options)
+        try:
+            return subprocess.run([self.program, *words], input=given, cwd=self.folder, **options)
+        except subprocess.TimeoutExpired as late:
+            return subprocess.CompletedProcess(words, "none: it did not end", late.stdout or b"", late.stderr or b"")
 
     def check(self, name, holds, what=""):
         self.tried += 1
@@ -223,7 +226,7 @@ def inputs(trials):
 
 
 def journals(trials):
-    """A journal that is an input or the output, under its name or by a link; a device that is both; an export into no folder."""
+    """A journal that is an input or the output, under its name or by a link; a device that is both; pipes; an export into no folder."""
     folder = trials.folder
     refused = "clearinghouse: cannot write journal"
 
@@ -249,9 +252,13 @@ def journals(trials):
     absent = ["missing" if word == "roster" else word for word in trials.calls["run"]]
     trials.ended("journal beside an input that is not there", trials.run(absent), 4, "clearinghouse: cannot read roster", b"")
     trials.check("journal beside an input that is not there", (folder / "journal").read_bytes() == b"1,withdraw,1\n", "the journal is lost")
+    os.mkfifo(folder / "pipe")
+    trials.ended("no-clobber journal is a pipe", trials.run([*given("pipe"), "--no-clobber"], timeout=20), 4, refused, b"")
+    piped = ["/dev/stdin" if word in ("script", "journal") else word for word in trials.calls["run"]]
+    trials.ended("journal and script are one pipe", trials.run(piped, SCRIPT.encode(), timeout=20), 4, refused, b"")
     export = ["export", *trials.calls["match"][1:], "--to", ""]
     trials.ended("an export into no folder", trials.run(export), 4, "clearinghouse: cannot write schools.csv: no file is whole", b"")
-    print("journals that are inputs, outputs and devices: tried")
+    print("journals that are inputs, outputs, devices and pipes: tried")
 
 
 def words(trials):

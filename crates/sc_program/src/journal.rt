@@ -2,7 +2,7 @@
 use sc_report::Watched;
 use sc_runs::{Inputs, RunFault};
 use std::fs::{Metadata, OpenFile, OpenOptions, metadata};
-use std::os::unix::fs::MetadataExt;
+use std::os::unix::fs::{FileTypeExt, MetadataExt};
 use std::rt::Files;
 
 /// Where the standard output is found as a file.
@@ -37,8 +37,27 @@ fn is_output<R: Files>(rt: &R, file: &Metadata) -> bool {
     }
 }
 
+/// Whether a file has nothing that is to be kept: an empty regular file. A device or a pipe is none.
+fn is_empty_file(file: &Metadata) -> bool {
+    file.is_file() && file.len() == 0
+}
+
+/// Whether what stands under a path is to be kept, if something does. To open a pipe would wait for its reader.
+fn is_kept<R: Files>(rt: &R, path: &str) -> bool {
+    match metadata(rt, path) {
+        Ok(file) => !is_empty_file(&file),
+        Err(_) => false,
+    }
+}
+
+/// Whether a file is an input that is lost, or never ends, where a journal is written to it: a regular file or a pipe.
+fn is_spoiled<F: OpenFile>(file: &Metadata, inputs: &Inputs<F>) -> bool {
+    (file.is_file() || file.file_type().is_fifo()) && is_among(file, inputs)
+}
+
 /// Empties a regular file that is to be the journal, unless it is one of the inputs or the output, or holds something that
-/// is to be kept: these are left as they are. A device, as `/dev/null`, has nothing to lose, but is no empty file.
+/// is to be kept: these are left as they are. A pipe has nothing to lose, but may be no input, since a run that reads what
+/// it writes would not end; a device, as `/dev/null`, may be both.
 fn empty_journal<R: Files>(
     rt: &R,
     journal: &R::File,
@@ -48,25 +67,29 @@ fn empty_journal<R: Files>(
     let Ok(file) = journal.metadata() else {
         return Err(RunFault::WriteJournal);
     };
-    if no_clobber && !(file.is_file() && file.len() == 0) {
+    if no_clobber && !is_empty_file(&file) || is_spoiled(&file, inputs) {
         return Err(RunFault::WriteJournal);
     }
     if !file.is_file() {
         return Ok(());
     }
-    if is_among(&file, inputs) || is_output(rt, &file) || journal.set_len(0).is_err() {
+    if is_output(rt, &file) || journal.set_len(0).is_err() {
         return Err(RunFault::WriteJournal);
     }
     Ok(())
 }
 
-/// The journal file, made new or emptied. It is opened as it stands and looked at before it is emptied.
+/// The journal file, made new or emptied. It is opened as it stands and looked at before it is emptied; where what is there
+/// is to be kept, it is looked at before it is opened too.
 pub fn create_journal<R: Files>(
     rt: &R,
     path: &str,
     no_clobber: bool,
     inputs: &Inputs<R::File>,
 ) -> Result<Watched<R::File>, RunFault> {
+    if no_clobber && is_kept(rt, path) {
+        return Err(RunFault::WriteJournal);
+    }
     let Ok(journal) = OpenOptions::new().write(true).create(true).open(rt, path) else {
         return Err(RunFault::WriteJournal);
     };
