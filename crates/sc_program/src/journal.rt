@@ -29,14 +29,6 @@ fn is_among<F: OpenFile>(file: &Metadata, inputs: &Inputs<F>) -> bool {
         || is_input(file, &inputs.script)
 }
 
-/// Whether a file is where the standard output goes.
-fn is_output<R: Files>(rt: &R, file: &Metadata) -> bool {
-    match metadata(rt, OUTPUT) {
-        Ok(output) => are_one(file, &output),
-        Err(_) => false,
-    }
-}
-
 /// Whether a file has nothing that is to be kept: an empty regular file. A device or a pipe is none.
 fn is_empty_file(file: &Metadata) -> bool {
     file.is_file() && file.len() == 0
@@ -58,11 +50,11 @@ fn is_spoiled<F: OpenFile>(file: &Metadata, inputs: &Inputs<F>) -> bool {
 /// Empties a regular file that is to be the journal, unless it is one of the inputs or the output, or holds something that
 /// is to be kept: these are left as they are. A pipe has nothing to lose, but may be no input, since a run that reads what
 /// it writes would not end; a device, as `/dev/null`, may be both.
-fn empty_journal<R: Files>(
-    rt: &R,
-    journal: &R::File,
+pub fn empty_journal<F: OpenFile>(
+    journal: &F,
     no_clobber: bool,
-    inputs: &Inputs<R::File>,
+    inputs: &Inputs<F>,
+    output: Option<&Metadata>,
 ) -> Result<(), RunFault> {
     let Ok(file) = journal.metadata() else {
         return Err(RunFault::WriteJournal);
@@ -73,10 +65,15 @@ fn empty_journal<R: Files>(
     if !file.is_file() {
         return Ok(());
     }
-    if is_output(rt, &file) || journal.set_len(0).is_err() {
-        return Err(RunFault::WriteJournal);
+    if let Some(output) = output {
+        if are_one(&file, output) {
+            return Err(RunFault::WriteJournal);
+        }
     }
-    Ok(())
+    match journal.set_len(0) {
+        Ok(()) => Ok(()),
+        Err(_) => Err(RunFault::WriteJournal),
+    }
 }
 
 /// The journal file, made new or emptied. It is opened as it stands and looked at before it is emptied; where what is there
@@ -93,6 +90,8 @@ pub fn create_journal<R: Files>(
     let Ok(journal) = OpenOptions::new().write(true).create(true).open(rt, path) else {
         return Err(RunFault::WriteJournal);
     };
-    empty_journal(rt, &journal, no_clobber, inputs)?;
+    // Where nothing can be learnt of the output, it counts as another file.
+    let output = metadata(rt, OUTPUT).ok();
+    empty_journal(&journal, no_clobber, inputs, output.as_ref())?;
     Ok(Watched::new(journal))
 }

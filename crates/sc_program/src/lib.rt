@@ -11,4 +11,5 @@ mod messages;
 mod performing;
 
 pub use exports::{Place, fill_made};
+pub use journal::empty_journal;
 pub use performing::{end_without_words, perform};

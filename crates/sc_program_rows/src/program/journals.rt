@@ -1,5 +1,11 @@
 //! What becomes of the file of a journal.
 use super::{REPORT, expect, ordering, performed, remove, write, write_files};
+use sc_program::empty_journal;
+use sc_report::Watched;
+use sc_runs::{Inputs, Opening, RunFault};
+use std::fs::{File, OpenOptions};
+use std::process::Abort;
+use std::rt::Files;
 use std::{fs, io};
 
 /// What a run tells whose schools and journal are these files, and then the journal.
@@ -55,6 +61,46 @@ fn no_input_is_the_journal(rt: HostRuntime) {
         expect(&rt, run_over(&rt, "schools", "linked"), refused, *held);
     }
     remove(&rt, "linked");
+}
+
+/// A file of the test's own folder, as an input.
+fn input<R: Files + Abort>(rt: &R, name: &str) -> Watched<R::File> {
+    Watched::new(File::open(rt, name).expect(rt, "a file that can be read"))
+}
+
+/// The inputs of a run over Market B.
+fn inputs<R: Files + Abort>(rt: &R) -> Inputs<R::File> {
+    Inputs {
+        opening: Opening {
+            schools: input(rt, "schools"),
+            roster: input(rt, "roster"),
+            lists: input(rt, "lists"),
+        },
+        script: input(rt, "script"),
+    }
+}
+
+/// The journal holds this text.
+fn expect_journal<R: Files + Abort + AllocGlobal>(rt: &R, want: &str) {
+    let kept = fs::read(rt, "journal").expect(rt, "a file that can be read");
+    assert!(rt; kept.as_slice() == want.as_bytes());
+}
+
+// The output of a test is no file, so the journal itself is handed in as the file where it goes.
+#[test]
+fn no_output_is_the_journal(rt: HostRuntime) {
+    write_files(&rt);
+    write(&rt, "script", "");
+    write(&rt, "journal", "1,withdraw,1\n");
+    let journal = OpenOptions::new().write(true).open(&rt, "journal");
+    let journal = journal.expect(&rt, "a file that can be written");
+    let output = fs::metadata(&rt, "journal").expect(&rt, "what the file is");
+    let inputs = inputs(&rt);
+    let refused = empty_journal(&journal, false, &inputs, Some(&output));
+    assert!(rt; refused == Err(RunFault::WriteJournal));
+    expect_journal(&rt, "1,withdraw,1\n");
+    assert!(rt; empty_journal(&journal, false, &inputs, None) == Ok(()));
+    expect_journal(&rt, "");
 }
 
 /// What a run without a record tells that is to keep an old journal, and then the journal.
