@@ -287,7 +287,9 @@ def memory_of_calls(given, name, make):
     if not os.path.isdir(folder):
         make(folder, 200_000)
     paths = {each: os.path.join(folder, each) for each in ("journal", "script", "made", "to")}
-    for each, line in (("journal", "1,add,1,1\n"), ("script", "0,add,1,1\n")):
+    with open(os.path.join(folder, "schools.csv")) as file:
+        school = file.readlines()[1].split(",")[0]
+    for each, line in (("journal", f"1,add,{school},1\n"), ("script", f"0,add,{school},1\n")):
         with open(paths[each], "w") as file:
             file.write(line)
     for call, (words, is_counted) in CALLS.items():
